@@ -1,0 +1,10 @@
+pub mod Limits
+pub mod Arithmetic
+pub mod State
+pub mod Step
+pub mod WellFormed
+pub mod Programs
+pub mod Progress
+pub mod Reasons
+pub mod Runs
+pub mod Laws
