@@ -54,8 +54,8 @@ module _ (p : Prog) (room left steps n : ℕ) (s : State) where
         within = omega (arith, h .within);
         before = on-before p n s (h .m) (subst (λ (c : Config). (k : ℕ) → k < h .m → GoesOn (after p k c)) (sym stepped) (h .before));
         stops =
-          one-more p room left (h .m) (r .stop) (r .final) (after p (h .m) (step p (running n s)))
-              (subst (λ (c : Config). StopMeans p room left (r .stop) (h .m) (r .final) (after p (h .m) c)) (sym stepped) (h .stops));
+            one-more p room left (h .m) (r .stop) (r .final) (after p (h .m) (step p (running n s)))
+            (subst (λ (c : Config). StopMeans p room left (r .stop) (h .m) (r .final) (after p (h .m) c)) (sym stepped) (h .stops));
       }
 
 later : (p : Prog) (room left steps n : ℕ) (s : State) → Later p room left steps (running n s) (limited p room left steps n s)

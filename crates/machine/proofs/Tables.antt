@@ -54,6 +54,9 @@ every-decides : (count : ℕ) (es : List Entry) → Decides (everySound count es
 every-decides count es =
     decides-by-and (sound count) (Sound count) (everySound count) (λ e. (λ t. t, λ t. t)) refl (λ _ _. refl) es
 
+pub every-from-all : (count : ℕ) (es : List Entry) → All (Sound count) es → everySound count es ≡ true
+every-from-all count es all = every-decides count es .1 all
+
 module _ (count : ℕ) (entries : List Entry) (n : ℕ) (fits : n ≤ length entries) where
   place : (k : ℕ) → k < n → getD (take n entries) k blank ≡ entryAt entries k
   place k below = getD-take n entries k blank below
@@ -78,7 +81,7 @@ pub long-enough : (n : ℕ) (entries : List Entry) → AllSound n entries → n 
 long-enough n entries all =
     ⊎-elim
     (λ less. let bad : Sound n blank = subst (λ (e : Entry). Sound n e) (getD-past entries (length entries) blank (omega arith)) (all (length entries) less) in
-        let z : _≡_ {A = ℕ} 0 1 = cc in absurd (omega arith))
+    let z : _≡_ {A = ℕ} 0 1 = cc in absurd (omega arith))
     (λ enough. enough)
     (cases-lt (length entries) n)
 

@@ -1,8 +1,8 @@
 // The controller's machine: its nodes and programs, what one node does, and runs of a program.
-pub mod node;
 pub mod arithmetic;
+pub mod node;
 pub mod outcome;
-pub mod progress;
-pub mod step;
 pub mod program;
+pub mod progress;
 pub mod sound;
+pub mod step;

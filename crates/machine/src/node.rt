@@ -35,16 +35,38 @@ pub enum BinaryOp {
 
 #[derive(Clone, Copy, PartialEq, Eq)]
 pub enum Node {
-    Mov { to: u8, from: Operand },
-    Binary { op: BinaryOp, to: u8, left: Operand, right: Operand },
-    In { to: u8 },
-    Out { from: Operand },
-    Ld { to: u8, cell: u8 },
-    St { cell: u8, from: Operand },
-    Br { on: Operand },
+    Mov {
+        to: u8,
+        from: Operand,
+    },
+    Binary {
+        op: BinaryOp,
+        to: u8,
+        left: Operand,
+        right: Operand,
+    },
+    In {
+        to: u8,
+    },
+    Out {
+        from: Operand,
+    },
+    Ld {
+        to: u8,
+        cell: u8,
+    },
+    St {
+        cell: u8,
+        from: Operand,
+    },
+    Br {
+        on: Operand,
+    },
     Skip,
     Halt,
-    Fail { fault: u8 },
+    Fail {
+        fault: u8,
+    },
 }
 
 /// The exits of a node: a straight node has exit 0, `br` exits 0 and 1, and a node that ends every run has none.
@@ -73,7 +95,12 @@ impl Table {
     pub fn halting() -> Table
         ensures { λ r. ⌜ r .entries ≡ replicate nodeLimit halt ⌝ }
     {
-        let halt = Entry { node: Node::Halt, targets: [0; 2] };
-        Table { entries: [halt; NODE_LIMIT] }
+        let halt = Entry {
+            node: Node::Halt,
+            targets: [0; 2],
+        };
+        Table {
+            entries: [halt; NODE_LIMIT],
+        }
     }
 }

@@ -25,7 +25,12 @@ impl Node {
     {
         match self {
             Node::Mov { to, from } => to < 8 && from.is_sound(),
-            Node::Binary { to, left, right, .. } => to < 8 && left.is_sound() && right.is_sound(),
+            Node::Binary {
+                to,
+                left,
+                right,
+                ..
+            } => to < 8 && left.is_sound() && right.is_sound(),
             Node::In { to } => to < 8,
             Node::Out { from } => from.is_sound(),
             Node::Ld { to, cell } => to < 8 && cell < 64,

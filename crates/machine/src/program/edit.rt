@@ -43,7 +43,11 @@ impl Program {
         ensures { λ r. ⌜ programOf r ≡ halting ⌝ }
     {
         let table = Table::halting();
-        Program { table, count: 1, first: 0 }
+        Program {
+            table,
+            count: 1,
+            first: 0,
+        }
     }
 
     /// The program that begins a table, if it is one.
@@ -56,7 +60,11 @@ impl Program {
         if !are_sound(&table.entries[0..count as usize], count) {
             return None;
         }
-        Some(Program { table, count, first })
+        Some(Program {
+            table,
+            count,
+            first,
+        })
     }
 
     /// The entries, in the order of their numbers.

@@ -5,13 +5,13 @@ ghost use Rattle.std.specs.declared.result.Result.the-variants.{Ok};
 ghost use Rattle.machine.specs.Laws.{LimitedBegins, StaysValid};
 ghost use Rattle.machine.specs.Programs.{programOf};
 ghost use Rattle.machine.specs.Runs.{whole, completed, numbered, answer, ran};
-use crate::step::is_blocked;
 use crate::outcome::Acted;
 use crate::outcome::Outcome;
 use crate::outcome::RunRefusal;
 use crate::outcome::Stop;
 use crate::program::Program;
 use crate::progress::Progress;
+use crate::step::is_blocked;
 
 impl Program {
     /// Runs the program on 64 cells, for at most `budget` steps.

@@ -1,0 +1,17 @@
+pub mod Decimal
+pub mod Spelled
+pub mod Cut
+pub mod KindLaws
+pub mod Fits
+pub mod WordLaws
+pub mod RowLaws
+pub mod EntryLaws
+pub mod TrailerLaws
+pub mod TextLaws
+pub mod LineEnds
+pub mod PlaceLaws
+pub mod RoundTrip
+pub mod Telling
+pub mod Whole
+pub mod TargetLaws
+pub mod ReadLaws

@@ -1,0 +1,15 @@
+pub mod Limits
+pub mod Kinds
+pub mod Causes
+pub mod Numbers
+pub mod Cuts
+pub mod Words
+pub mod Rows
+pub mod Print
+pub mod WordReads
+pub mod RowReads
+pub mod Entries
+pub mod Targets
+pub mod Texts
+pub mod Reads
+pub mod PlaceOf

@@ -1,0 +1,2 @@
+/// The longest text.
+pub const TEXT_LIMIT: usize = 9216;
