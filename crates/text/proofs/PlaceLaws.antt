@@ -1,6 +1,6 @@
 -- Parts and their places.
 use mathlib.Core.Path.{_≡_, refl, sym, ap, subst, _∙_}
-use mathlib.Core.Bool.{Bool, true, false, cond}
+use mathlib.Core.Bool.{Bool, true, false, cond, _&&_}
 use mathlib.Core.List.{List, [], _∷_, _++_}
 use Prim.Native.Nat.{ℕ, zero, suc, _+_, _-_, _≤_, _<_}
 use native.Mathlib.Omega.{arith}
@@ -8,9 +8,10 @@ use native.Mathlib.Numerals.{add-one}
 use lib.Dec.{eqb, ltb}
 use lib.ListN.{length, getD, take, drop}
 use Rattle.std.proofs.shelf.Lists.{length-drop, length-take-le, drop-take, take-take, drop-drop}
-use Rattle.std.proofs.shelf.Tests.{lt-ltb, le-ltb}
+use mathlib.Core.Logic.{_⊎_, inl, inr}
+use Rattle.std.proofs.shelf.Tests.{lt-ltb, le-ltb, ltb-true, and-parts, and-from, cases-bool, both-ways}
 use Rattle.text.specs.Cuts.{parts}
-use Rattle.text.specs.PlaceOf.{partStart, PartAt, WordAt, lineOf, wordOf, wordStart}
+use Rattle.text.specs.PlaceOf.{partStart, PartAt, WordAt, lineOf, isWord, wordOf, wordStart}
 use Rattle.text.proofs.Cut.{leftAt, cut-step}
 
 -- the first of what is left
@@ -78,6 +79,18 @@ inner m s k xs h =
     let e : s + (k - s) ≡ k = omega arith in
     ap (λ j. take m (drop s (take j xs))) (sym e) ∙ ap (take m) (drop-take s (k - s) xs) ∙ take-take m (k - s) (drop s xs) (omega arith)
 
+-- there is such a word, part by part
+pub record IsWord (text : List ℕ) (line word : ℕ) : Type 0 where
+  pub some-line : 0 < line
+  pub some-word : 0 < word
+  pub within-lines : line - 1 < length (parts 10 text)
+  pub within-words : word - 1 < length (parts 32 (lineOf text line))
+
+word-true : (text : List ℕ) (line word : ℕ) → IsWord text line word → isWord text line word ≡ true
+word-true text line word h =
+    and-from (ltb 0 line && ltb 0 word) _ (and-from (ltb 0 line) (ltb 0 word) (lt-ltb 0 line (h .some-line)) (lt-ltb 0 word (h .some-word)))
+    (and-from (ltb (line - 1) (length (parts 10 text))) _ (lt-ltb _ _ (h .within-lines)) (lt-ltb _ _ (h .within-words)))
+
 -- the word that starts at s and ends at e in the line that starts at a and ends at b
 pub word-at : (text : List ℕ) (line word a b s e : ℕ) → 0 < line → 0 < word → PartAt text (parts 10 text) (line - 1) a b
     → PartAt (take (b - a) (drop a text)) (parts 32 (take (b - a) (drop a text))) (word - 1) s e
@@ -91,9 +104,10 @@ word-at text line word a b s e nl nw p q′ =
     let r : take (a + e - (a + s)) (drop (a + s) text) ≡ w =
     ap (λ k. take k (drop (a + s) text)) m ∙ ap (take (e - s)) (sym (drop-drop s a text)) ∙ sym (inner (e - s) s (b - a) (drop a text) fits) ∙ q′ .bytes
     ∙ ap (λ (l : List ℕ). getD (parts 32 l) (word - 1) []) (p .bytes) in
-    let long : a + e - (a + s) ≡ length (take (a + e - (a + s)) (drop (a + s) text)) = (let z : a + e - (a + s) ≡ length w = omega (arith, q .ends) in z) ∙ sym (ap length r) in
+    let long : a + e - (a + s) ≡ length w = omega (arith, q .ends) in
     let at : a + s ≡ wordStart text line word = omega (arith, p .start, q .start) in
+    let t = word-true text line word (record { some-line = nl; some-word = nw; within-lines = p .within; within-words = q .within }) in
     record {
-      found = λ _. (r, ap (λ k. take k (drop (a + s) text)) long ∙ ap (λ k. take (length (take (a + e - (a + s)) (drop (a + s) text))) (drop k text)) at);
-      missing = λ no. absurd (no (nl, nw, p .within, q .within));
+      placed = rw t (ap (λ k. take k (drop (a + s) text)) long ∙ ap (λ k. take (length w) (drop k text)) at);
+      is-word = λ _. r;
     }
