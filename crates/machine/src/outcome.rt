@@ -1,4 +1,5 @@
 // How a run ends, and why one is refused.
+use std::fmt;
 
 // How a node ends a run.
 #[derive(Clone, Copy, PartialEq, Eq, Debug)]
@@ -37,4 +38,17 @@ pub struct Outcome {
 pub enum RunRefusal {
     WrongCellCount,
     BudgetTooLarge,
+}
+
+pub impl fmt::Display for Stop as StopDisplay {
+    fn fmt<W: fmt::Write>(&self, f: &mut fmt::Formatter<W>) -> fmt::Result {
+        match *self {
+            Stop::Ended(Ending::Halted) => f.write_str("halted"),
+            Stop::Ended(Ending::Failed(fault)) => write!(f, "failed {fault}"),
+            Stop::Ended(Ending::Divided) => f.write_str("divided"),
+            Stop::Ended(Ending::Dry) => f.write_str("dry"),
+            Stop::Spent => f.write_str("spent"),
+            Stop::Full => f.write_str("full"),
+        }
+    }
 }

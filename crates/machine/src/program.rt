@@ -3,8 +3,9 @@ ghost use Prim.Native.Nat.{_<_, _≤_};
 ghost use Rattle.machine.specs.Limits.{nodeLimit};
 ghost use Rattle.machine.specs.WellFormed.{AllSound};
 
-pub mod edit;
+mod edit;
 pub mod run;
+mod view;
 
 use crate::node::NodeNumber;
 use crate::node::Table;

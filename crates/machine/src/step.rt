@@ -18,7 +18,7 @@ use crate::progress::Progress;
 
 impl Progress {
     // Where every run begins.
-    pub fn new() -> Progress
+    pub(crate) fn new() -> Progress
         ensures { λ r. ⌜ r ≡ beginning ⌝ }
     {
         Progress {
@@ -28,7 +28,7 @@ impl Progress {
         }
     }
 
-    pub fn outcome(&self, stop: Stop, steps: u32) -> Outcome
+    pub(crate) fn outcome(&self, stop: Stop, steps: u32) -> Outcome
         ensures { λ r. ⌜ r ≡ outcomeOf (now (self .entry)) stop steps ⌝ }
     {
         Outcome {
@@ -39,7 +39,7 @@ impl Progress {
         }
     }
 
-    pub fn operand(&self, operand: Operand) -> u32
+    pub(crate) fn operand(&self, operand: Operand) -> u32
         requires { ⌜ isOperand operand ≡ true ⌝ }
         ensures { λ r. ⌜ r ≡ value (now (self .entry) .registers) operand ⌝ }
     {
@@ -57,7 +57,7 @@ impl Progress {
     }
 
     // Runs one node, for whose word there is room.
-    pub fn perform(
+    pub(crate) fn perform(
         &mut self,
         node: Node,
         cells: &mut [u32],
@@ -125,7 +125,7 @@ impl Progress {
 }
 
 // Whether a node would write a word for which there is no room.
-pub fn is_blocked(node: Node, room: usize, written: usize) -> bool
+pub(crate) fn is_blocked(node: Node, room: usize, written: usize) -> bool
     ensures { λ r. ⌜ r ≡ blocked node room written ⌝ }
 {
     match node {

@@ -13,7 +13,7 @@ use crate::refusal::Refusal;
 use crate::session::Session;
 use machine::outcome::Outcome;
 use machine::program::Program;
-use text::print::print;
+use printer::print::print;
 use text::read::read;
 
 impl Session {
@@ -32,8 +32,9 @@ impl Session {
     {
         match read(text) {
             Ok(program) => {
+                let nodes = program.count() as usize;
                 self.program = program;
-                Ok(self.program.count() as usize)
+                Ok(nodes)
             }
             Err(refusal) => Err(Refusal::Text(refusal)),
         }

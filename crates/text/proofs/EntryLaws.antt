@@ -11,7 +11,7 @@ use Rattle.text.specs.declared.cause.Cause.{Cause}
 use Rattle.machine.specs.declared.node.Entry.{Entry}
 use Rattle.machine.specs.declared.node.Node.{Node}
 use Rattle.text.specs.declared.kind.Kind.{Kind}
-use Rattle.text.specs.declared.parts.Parts.{Parts}
+use Rattle.text.specs.declared.read.parts.Parts.{Parts}
 use Rattle.text.specs.Causes.{causeNumber}
 use Rattle.text.specs.Cuts.{left}
 use Rattle.text.specs.Entries.{EntryRead, TargetsFit}

@@ -15,6 +15,3 @@ pub mod Telling
 pub mod Whole
 pub mod TargetLaws
 pub mod ReadLaws
-pub mod Pages
-pub mod Joined
-pub mod Long

@@ -14,7 +14,7 @@ use Rattle.std.specs.Written.{decimal}
 use Rattle.std.proofs.shelf.Lists.{nil-from-length, length-drop, drop-all, drop-more}
 use Rattle.std.proofs.shelf.Tests.{and-parts, and-from, and-left, and-right, cases-bool, cases-eq, cases-lt, eqb-true, eq-eqb, ne-eqb, lt-ltb, le-ltb}
 use Rattle.machine.specs.declared.node.Entry.{Entry}
-use Rattle.text.specs.declared.parts.Parts.{Parts}
+use Rattle.text.specs.declared.read.parts.Parts.{Parts}
 use Rattle.text.specs.Cuts.{parts, grown, left}
 use Rattle.text.specs.Limits.{nodeNumberLimit}
 use Rattle.text.specs.Numbers.{valueOf}

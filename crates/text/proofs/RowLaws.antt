@@ -5,7 +5,7 @@ use Prim.Native.Nat.{ℕ, _+_, _-_, _≤_, _<_}
 use native.Mathlib.Omega.{arith}
 use lib.ListN.{length, length-append}
 use Rattle.std.specs.declared.option.Option.the-variants.{Some, None}
-use Rattle.text.specs.declared.parts.Parts.{Parts}
+use Rattle.text.specs.declared.read.parts.Parts.{Parts}
 use Rattle.text.specs.Cuts.{left}
 use Rattle.text.specs.Rows.{Due, wordFault, rowFault, operandDues, exitDues}
 use Rattle.text.specs.RowReads.{RowOk, RowErr, RowRead}

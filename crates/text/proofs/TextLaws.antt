@@ -15,7 +15,7 @@ use Rattle.std.proofs.shelf.Elements.{all-push}
 use Rattle.std.proofs.shelf.Lists.{take-more-set, length-take-le, length-set}
 use Rattle.std.proofs.shelf.Tests.{cases-bool, eqb-true, eqb-false, le-ltb, lt-ltb, ne-eqb}
 use Rattle.machine.specs.declared.node.Entry.{Entry}
-use Rattle.text.specs.declared.parts.Parts.{Parts}
+use Rattle.text.specs.declared.read.parts.Parts.{Parts}
 use Rattle.text.specs.Cuts.{parts, grown, left}
 use Rattle.text.specs.Entries.{EntryFits}
 use Rattle.text.specs.Print.{entryWords}

@@ -9,7 +9,7 @@ use Rattle.std.specs.declared.result.Result.{Result}
 use Rattle.std.specs.declared.result.Result.the-variants.{Ok, Err}
 use Rattle.std.specs.Written.{decimal}
 use Rattle.text.specs.declared.cause.Cause.{Cause}
-use Rattle.text.specs.declared.parts.Parts.{Parts}
+use Rattle.text.specs.declared.read.parts.Parts.{Parts}
 use Rattle.text.specs.Causes.{causeNumber}
 use Rattle.text.specs.Cuts.{left}
 use Rattle.text.specs.Print.{trailerWords}

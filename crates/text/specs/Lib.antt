@@ -12,6 +12,4 @@ pub mod Entries
 pub mod Targets
 pub mod Texts
 pub mod Reads
-pub mod Pages
-pub mod Prints
 pub mod PlaceOf

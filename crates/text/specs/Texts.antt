@@ -12,7 +12,7 @@ use Rattle.std.specs.Pieces.{rejoined}
 use Rattle.std.specs.shelf.Lists.{All}
 use Rattle.std.specs.shelf.Text.{sameBytes}
 use Rattle.machine.specs.declared.node.Entry.{Entry}
-use Rattle.text.specs.declared.parts.Parts.{Parts}
+use Rattle.text.specs.declared.read.parts.Parts.{Parts}
 use Rattle.text.specs.declared.refusal.TextRefusal.{TextRefusal}
 use Rattle.text.specs.Causes.{causeNumber}
 use Rattle.text.specs.Cuts.{parts, left}

@@ -11,13 +11,14 @@ use Rattle.std.specs.declared.option.Option.the-variants.{Some, None}
 use Rattle.std.specs.declared.result.Result.{Result}
 use Rattle.std.specs.declared.result.Result.the-variants.{Ok, Err}
 use Rattle.std.specs.Options.{Cases, isSome}
+use Rattle.std.specs.shelf.Text.{sameBytes}
 use Rattle.text.specs.declared.cause.Cause.{Cause}
 use Rattle.text.specs.declared.cause.Cause.the-variants.{IllFormed}
 use Rattle.text.specs.declared.kind.Kind.{Kind}
-use Rattle.text.specs.declared.word.Sort.{Sort}
-use Rattle.text.specs.declared.word.Sort.the-variants as sort
-use Rattle.text.specs.declared.word.Word.{Word}
-use Rattle.text.specs.declared.word.Word.the-variants as word
+use Rattle.text.specs.declared.read.word.Sort.{Sort}
+use Rattle.text.specs.declared.read.word.Sort.the-variants as sort
+use Rattle.text.specs.declared.read.word.Word.{Word}
+use Rattle.text.specs.declared.read.word.Word.the-variants as word
 use Rattle.machine.specs.declared.node.BinaryOp.{BinaryOp}
 use Rattle.text.specs.Kinds.{binaryName, kindName}
 use Rattle.text.specs.Numbers.{NumberRead}
@@ -27,6 +28,20 @@ BinaryRead w r = Cases r ((op : BinaryOp) → w ≡ binaryName op → ⊥) (λ o
 
 abbrev pub KindRead : List ℕ → Option Kind → Type 0
 KindRead w r = Cases r ((k : Kind) → w ≡ kindName k → ⊥) (λ k. w ≡ kindName k)
+
+abbrev pub KindIn : Word → Option Kind → Type 0
+KindIn (word.Label p) r = r ≡ None
+KindIn (word.Kind p) r = KindRead (p .now) r
+KindIn (word.Operand p) r = r ≡ None
+KindIn (word.Arrow p) r = r ≡ None
+KindIn (word.Number p) r = r ≡ None
+
+abbrev pub isArrow : Word → Bool
+isArrow (word.Label p) = false
+isArrow (word.Kind p) = false
+isArrow (word.Operand p) = false
+isArrow (word.Arrow p) = sameBytes (p .now) (codes "->")
+isArrow (word.Number p) = false
 
 abbrev pub letterOf : Sort → ℕ
 letterOf sort.Register = 114

@@ -1,20 +1,6 @@
-// The text of a program: reading and printing.
+// The text of a program: what it is, and how it is read.
 pub mod cause;
-mod cutting;
-mod entry;
 pub mod kind;
-mod lines;
-mod name;
-mod numbers;
-pub mod page;
-mod parts;
 pub mod place;
-pub mod print;
 pub mod read;
-mod reading;
 pub mod refusal;
-mod rows;
-mod targets;
-mod trailer;
-mod word;
-mod words;

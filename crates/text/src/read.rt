@@ -1,13 +1,24 @@
 // Reads the text of a program.
+mod due;
+mod entry;
+mod lines;
+mod numbers;
+pub(crate) mod parts;
+mod row;
+mod targets;
+mod trailer;
+mod word;
 
 use crate::cause::Cause;
-use crate::lines::read_lines;
-use crate::page::TEXT_LIMIT;
+use crate::read::lines::read_lines;
+use crate::read::targets::bad_targets;
 use crate::refusal::TextRefusal;
-use crate::targets::bad_targets;
 ghost use Rattle.text.specs.Reads.{ReadAs};
 use machine::node::Table;
 use machine::program::Program;
+
+/// The most bytes of a text.
+pub const TEXT_LIMIT: usize = 9216;
 
 /// The program that a text spells, or the first fault of the text.
 pub fn read(text: &[u8]) -> Result<Program, TextRefusal>

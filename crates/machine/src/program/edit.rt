@@ -1,4 +1,4 @@
-// Making programs, looking at them and changing them.
+// Making programs and changing them.
 ghost use mathlib.Core.Bool.{true, cond, _&&_};
 ghost use mathlib.Core.List.{_++_};
 ghost use mathlib.Core.Path.{_≡_};
@@ -7,7 +7,7 @@ ghost use lib.Dec.{ltb, leb};
 ghost use lib.ListN.{set, length, take};
 ghost use Rattle.std.specs.Options.{mapped};
 ghost use Rattle.machine.specs.Limits.{nodeLimit};
-ghost use Rattle.machine.specs.Programs.{prog, programOf, halting, checked, everySound, IsProgram};
+ghost use Rattle.machine.specs.Programs.{prog, programOf, halting, checked, everySound};
 ghost use Rattle.machine.specs.WellFormed.{sound};
 use crate::node::Entry;
 use crate::node::NODE_LIMIT;
@@ -65,26 +65,6 @@ impl Program {
             count,
             first,
         })
-    }
-
-    /// The entries, in the order of their numbers.
-    pub fn entries(&self) -> &[Entry]
-        ensures value { λ r. ⌜ now r ≡ programOf (now (self .entry)) .entries ⌝ }
-        ensures whole { λ _. ⌜ IsProgram (programOf (now (self .entry))) ⌝ }
-    {
-        &self.table.entries[0..self.count as usize]
-    }
-
-    pub fn count(&self) -> NodeNumber
-        ensures { λ r. ⌜ r ≡ length (programOf (now (self .entry)) .entries) ⌝ }
-    {
-        self.count
-    }
-
-    pub fn first(&self) -> NodeNumber
-        ensures { λ r. ⌜ r ≡ programOf (now (self .entry)) .first ⌝ }
-    {
-        self.first
     }
 
     /// Puts `entry` in the place of the one at `k`, if that leaves a program.

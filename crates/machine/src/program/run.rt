@@ -13,6 +13,12 @@ use crate::program::Program;
 use crate::progress::Progress;
 use crate::step::is_blocked;
 
+/// The cells that a run works on.
+pub const CELL_COUNT: usize = 64;
+
+/// The largest budget of a run.
+pub const BUDGET_LIMIT: u32 = 1_000_000;
+
 impl Program {
     /// Runs the program on 64 cells, for at most `budget` steps.
     pub fn run(
@@ -26,10 +32,10 @@ impl Program {
         ensures begins { λ _. ⌜ LimitedBegins (programOf (now (self .entry))) ⌝ }
         ensures valid { λ _. ⌜ StaysValid (programOf (now (self .entry))) ⌝ }
     {
-        if cells.len() != 64 {
+        if cells.len() != CELL_COUNT {
             return Err(RunRefusal::WrongCellCount);
         }
-        if budget > 1_000_000 {
+        if budget > BUDGET_LIMIT {
             return Err(RunRefusal::BudgetTooLarge);
         }
         Ok(self.run_within(cells, inputs, output, budget))
