@@ -5,7 +5,7 @@ ghost use Rattle.text.specs.Limits.{textLimit};
 ghost use Rattle.machine.specs.Programs.{programOf};
 ghost use Rattle.text.specs.Print.{printed};
 ghost use Rattle.printer.specs.Prints.{Printed};
-ghost use Rattle.text.specs.Reads.{ReadsBack};
+ghost use Rattle.text.specs.Reads.{SpellsJust};
 use crate::page::Page;
 use machine::program::Program;
 
@@ -13,7 +13,7 @@ use machine::program::Program;
 pub fn print(program: &Program, out: &mut [u8]) -> Result<usize, usize>
     ensures value { λ r. ⌜ Printed (printed (programOf (now (program .entry)))) (now (out .entry)) r (now (out .exit)) ⌝ }
     ensures fits { λ _. ⌜ length (printed (programOf (now (program .entry)))) ≤ textLimit ⌝ }
-    ensures back { λ _. ⌜ ReadsBack (programOf (now (program .entry))) ⌝ }
+    ensures back { λ _. ⌜ SpellsJust (printed (programOf (now (program .entry)))) (programOf (now (program .entry))) ⌝ }
 {
     let mut page = Page::new();
     page.push_program(program);

@@ -13,7 +13,7 @@ use Rattle.std.specs.Results.{Cases}
 use Rattle.machine.specs.Programs.{Prog, programOf}
 use Rattle.machine.specs.Reasons.{Reason, reason}
 use Rattle.text.specs.Print.{printed}
-use Rattle.text.specs.Reads.{Spells}
+use Rattle.text.specs.Reads.{SpellsJust}
 use Rattle.text.specs.Texts.{textFault}
 use Rattle.session.specs.declared.refusal.Refusal.{Refusal}
 use Rattle.session.specs.declared.session.Session.{Session}
@@ -27,10 +27,10 @@ abbrev pub numbered : {V : Type 0} → Result V Refusal → Result V Reason
 numbered (Ok v) = Ok v
 numbered (Err e) = Err (reasonOf e)
 
--- the session holds the program that the text spells, and its nodes are told; or the text's first fault is told, and the session is as it was
+-- the session holds the one program that the text spells, and its nodes are told; or the text's first fault is told, and the session is as it was
 abbrev pub ReadCall : List ℕ → Prog → Result ℕ Refusal → Prog → Type 0
 ReadCall text before r after =
-    Cases r (λ nodes. Spells text after × (nodes ≡ length (after .entries)))
+    Cases r (λ nodes. SpellsJust text after × (nodes ≡ length (after .entries)))
     (λ e. (mapped textReason (textFault text) ≡ Some (reasonOf e)) × (after ≡ before))
 
 -- the program's text begins a buffer that is long enough, and the rest of it is as before; a shorter one is as it was, and the bytes due are told

@@ -7,7 +7,7 @@ ghost use Rattle.machine.specs.Programs.{halting};
 ghost use Rattle.machine.specs.Runs.{answer, ran};
 ghost use Rattle.text.specs.Limits.{textLimit};
 ghost use Rattle.text.specs.Print.{printed};
-ghost use Rattle.text.specs.Reads.{ReadsBack};
+ghost use Rattle.text.specs.Reads.{SpellsJust};
 ghost use Rattle.session.specs.Calls.{held, ReadCall, PrintCall, numbered};
 use crate::refusal::Refusal;
 use crate::session::Session;
@@ -44,7 +44,7 @@ impl Session {
     pub fn print(&self, out: &mut [u8]) -> Result<usize, Refusal>
         ensures exact { λ r. ⌜ PrintCall (held (now (self .entry))) (now (out .entry)) (numbered r) (now (out .exit)) ⌝ }
         ensures fits { λ _. ⌜ length (printed (held (now (self .entry)))) ≤ textLimit ⌝ }
-        ensures back { λ _. ⌜ ReadsBack (held (now (self .entry))) ⌝ }
+        ensures back { λ _. ⌜ SpellsJust (printed (held (now (self .entry)))) (held (now (self .entry))) ⌝ }
     {
         match print(&self.program, out) {
             Ok(len) => Ok(len),

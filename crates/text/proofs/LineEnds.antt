@@ -20,7 +20,8 @@ use Rattle.text.specs.Limits.{nodeNumberLimit}
 use Rattle.text.specs.Numbers.{valueOf}
 use Rattle.text.specs.Print.{trailerWords}
 use Rattle.text.specs.Rows.{wordFault, rowFault}
-use Rattle.text.specs.Texts.{Place, words, isTrailer, onLine, linesFault, trailerDues, trailerFault, nothingLeft, nodeTexts, NodesOk, LinesOk}
+use Rattle.text.specs.LineReads.{nodeTexts, NodesOk, LinesOk}
+use Rattle.text.specs.Texts.{Place, words, isTrailer, onLine, linesFault, trailerDues, trailerFault, nothingLeft}
 use Rattle.text.proofs.Decimal.{written-is-read}
 use Rattle.text.proofs.TextLaws.{parts-some, join-parts}
 

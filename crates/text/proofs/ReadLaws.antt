@@ -24,9 +24,10 @@ use Rattle.text.specs.Entries.{EntryFits}
 use Rattle.text.specs.Limits.{textLimit, nodeNumberLimit}
 use Rattle.text.specs.Numbers.{valueOf}
 use Rattle.text.specs.Print.{entryWords, trailerWords, printed}
-use Rattle.text.specs.Reads.{Spells, ReadsBack}
+use Rattle.text.specs.Reads.{Spells, SpellsJust}
 use Rattle.text.specs.Targets.{badTargets, TargetsBelow}
-use Rattle.text.specs.Texts.{Place, words, either, linesFault, targetsFault, textFault, nodeTexts, LinesOk}
+use Rattle.text.specs.LineReads.{nodeTexts, LinesOk}
+use Rattle.text.specs.Texts.{Place, words, either, linesFault, targetsFault, textFault}
 use Rattle.text.proofs.Fits.{fits-sound, program-fits, program-below}
 use Rattle.text.proofs.TargetLaws.{refused7, lines-targets, all-below, below-all, length-texts}
 use Rattle.text.proofs.Telling.{number-back, line-tells}
@@ -74,7 +75,7 @@ module _ (text : List ℕ) (es : List Entry) (n first : ℕ) (short : length tex
             checked-good es n first (ok .small) starts
             (every-from-all n (take n es) (fit-sound n (take n es) (ok .small) (ok .fit) (below-all n 0 (take n es) (all-found ∙ none))))
 
-        prints : printed (prog (take n es) first) ≡ text
+        pub prints : printed (prog (take n es) first) ≡ text
         prints =
             let p = prog (take n es) first in
             let few′ : length (take n es) ≤ 200 = omega (arith, long, ok .small) in
@@ -83,12 +84,8 @@ module _ (text : List ℕ) (es : List Entry) (n first : ℕ) (short : length tex
             cut ∙ ap (λ k. nodeTexts 0 (take n es) ++ rejoined 32 (trailerWords k first) ∷ [] ∷ []) long ∙ sym (ok .spelled) in
             sym (join-parts 10 (printed p)) ∙ ap (rejoined 10) same ∙ join-parts 10 text
 
-        pub spelled : (q : Prog) → q ≡ prog (take n es) first → Spells text q
-        spelled q is =
-            record {
-              passes = fault-first ∙ ap (λ b. cond {A = Option Place} b None (Some (7, n + 1, 4))) (lt-ltb first n starts);
-              prints = ap printed is ∙ prints;
-            }
+        pub passes : textFault text ≡ None
+        passes = fault-first ∙ ap (λ b. cond {A = Option Place} b None (Some (7, n + 1, 4))) (lt-ltb first n starts)
 
 -- every program prints as a text that is read as that program
 
@@ -140,9 +137,11 @@ printed-alone p q okp okq e =
     let same = first-tells (length (q .entries)) (length (p .entries)) (q .first) (p .first) (omega (arith, okq .counted)) (omega (arith, okp .counted)) (first-small q okq) (first-small p okp) last in
     ap (λ es. prog es (q .first)) (h .0) ∙ ap (prog (p .entries)) same
 
-pub reads-back : (p : Prog) → IsProgram p → length (printed p) ≤ textLimit → ReadsBack p
-reads-back p ok short =
-    record {
-      spelled = record { passes = printed-passes p ok short; prints = refl };
-      alone = λ q okq s. printed-alone p q ok okq (s .prints);
-    }
+pub spells-just : (text : List ℕ) (p : Prog) → IsProgram p → textFault text ≡ None → printed p ≡ text → SpellsJust text p
+spells-just text p ok none is = record {
+  spells = record { program = ok; passes = none; prints = is };
+  alone = λ q s. printed-alone p q ok (s .program) (s .prints ∙ sym is);
+}
+
+pub reads-back : (p : Prog) → IsProgram p → length (printed p) ≤ textLimit → SpellsJust (printed p) p
+reads-back p ok short = spells-just (printed p) p ok (printed-passes p ok short) refl

@@ -26,7 +26,8 @@ use Rattle.text.specs.Numbers.{valueOf}
 use Rattle.text.specs.Print.{entryWords, operandWords, exitWords, trailerWords}
 use Rattle.text.specs.Rows.{Due, rowFault, placed, operandDues, exitDues, nodeDues, target}
 use Rattle.text.specs.Targets.{usedTargets, TargetsBelow, firstNotBelow, badTarget, onEntry, badTargets}
-use Rattle.text.specs.Texts.{Place, words, isTrailer, onLine, lineDues, trailerDues, targetFault, targetsFault, nodeTexts, LinesOk}
+use Rattle.text.specs.LineReads.{nodeTexts, LinesOk}
+use Rattle.text.specs.Texts.{Place, words, isTrailer, onLine, lineDues, trailerDues, targetFault, targetsFault}
 use Rattle.text.proofs.KindLaws.{kind-exits, kind-known}
 use Rattle.text.proofs.Telling.{number-back}
 use Rattle.text.proofs.Whole.{entry-cut, entry-no-trailer, trailer-cut}

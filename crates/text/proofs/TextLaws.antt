@@ -20,7 +20,8 @@ use Rattle.text.specs.Cuts.{parts, grown, left}
 use Rattle.text.specs.Entries.{EntryFits}
 use Rattle.text.specs.Print.{entryWords}
 use Rattle.text.specs.Rows.{wordFault, rowFault, nodeFault}
-use Rattle.text.specs.Texts.{Place, words, isTrailer, onLine, linesFault, lineDues, trailerFault, nodeTexts}
+use Rattle.text.specs.LineReads.{nodeTexts}
+use Rattle.text.specs.Texts.{Place, words, isTrailer, onLine, linesFault, lineDues, trailerFault}
 
 grown-some : (c : ℕ) (ws : List (List ℕ)) → 0 < length ws → 0 < length (grown c ws)
 grown-some c [] h = h

@@ -15,7 +15,8 @@ use Rattle.text.specs.Cuts.{left}
 use Rattle.text.specs.Print.{trailerWords}
 use Rattle.text.specs.RowReads.{RowOk, RowErr}
 use Rattle.text.specs.Rows.{Due, exactly, count, target, wordFault, rowFault}
-use Rattle.text.specs.Texts.{TrailerRead, trailerDues}
+use Rattle.text.specs.LineReads.{TrailerRead}
+use Rattle.text.specs.Texts.{trailerDues}
 use Rattle.text.proofs.RowLaws.{ok-ok, ok-err, err-more}
 
 pub trailer-exit : (ws : List (List ℕ)) (r : Result (ℕ × ℕ) Cause) (y e : Cause) (n : ℕ) → r ≡ Err y → y ≡ e → rowFault wordFault trailerDues 1 ws ≡ Some (causeNumber e, n) → TrailerRead ws r n

@@ -24,7 +24,8 @@ use Rattle.text.specs.Numbers.{valueOf}
 use Rattle.text.specs.Print.{entryWords, line, nodeLines, trailerWords, printed, labelWord}
 use Rattle.text.specs.Rows.{wordFault, rowFault, nodeFault}
 use Rattle.machine.specs.Programs.{Prog}
-use Rattle.text.specs.Texts.{Place, words, isTrailer, onLine, linesFault, lineDues, trailerDues, trailerFault, nodeTexts}
+use Rattle.text.specs.LineReads.{nodeTexts}
+use Rattle.text.specs.Texts.{Place, words, isTrailer, onLine, linesFault, lineDues, trailerDues, trailerFault}
 use Rattle.text.proofs.Decimal.{written-is-read}
 use Rattle.text.proofs.RoundTrip.{Lacks, Solid, solid-lacks, decimal-solid, parts-join, parts-front, entry-solid, entry-no-fault, good-none, number-good}
 use Rattle.text.proofs.LineEnds.{trailer-line}

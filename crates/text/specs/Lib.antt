@@ -11,5 +11,6 @@ pub mod RowReads
 pub mod Entries
 pub mod Targets
 pub mod Texts
+pub mod LineReads
 pub mod Reads
 pub mod PlaceOf

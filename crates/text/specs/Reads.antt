@@ -13,14 +13,15 @@ use Rattle.text.specs.Texts.{textFault, refusalTold}
 
 -- the text passes every check, and is what is printed of the program
 pub record Spells (text : List ℕ) (p : Prog) : Type 0 where
+  pub program : IsProgram p
   pub passes : textFault text ≡ None
   pub prints : printed p ≡ text
 
--- the program that the text spells, or its first fault
-abbrev pub ReadAs : List ℕ → Result Program TextRefusal → Type 0
-ReadAs text r = Cases r (λ p. Spells text (programOf p)) (λ f. textFault text ≡ Some (refusalTold f))
+-- and of no other program
+pub record SpellsJust (text : List ℕ) (p : Prog) : Type 0 where
+  pub spells : Spells text p
+  pub alone : (q : Prog) → Spells text q → q ≡ p
 
--- what is printed of a program is read, and as that program alone
-pub record ReadsBack (p : Prog) : Type 0 where
-  pub spelled : Spells (printed p) p
-  pub alone : (q : Prog) → IsProgram q → Spells (printed p) q → q ≡ p
+-- the one program that the text spells, or the text's first fault
+abbrev pub ReadAs : List ℕ → Result Program TextRefusal → Type 0
+ReadAs text r = Cases r (λ p. SpellsJust text (programOf p)) (λ f. textFault text ≡ Some (refusalTold f))

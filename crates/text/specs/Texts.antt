@@ -1,35 +1,24 @@
 -- The first fault of a whole text: its number, its line and its word.
-use mathlib.Core.Path.{_≡_}
-use mathlib.Core.Bool.{Bool, true, false, cond, _&&_}
-use mathlib.Core.List.{List, [], _∷_, _++_}
-use Prim.Native.Nat.{ℕ, _+_, _-_, _≤_, _<_}
+use mathlib.Core.Bool.{Bool, cond, _&&_}
+use mathlib.Core.List.{List, [], _∷_}
+use Prim.Native.Nat.{ℕ, _+_, _-_}
 use lib.Chars.{codes}
 use lib.Dec.{eqb, ltb}
-use lib.ListN.{length, getD, take}
+use lib.ListN.{length, getD}
 use Rattle.std.specs.declared.option.Option.{Option}
 use Rattle.std.specs.declared.option.Option.the-variants.{Some, None}
-use Rattle.std.specs.Pieces.{rejoined}
-use Rattle.std.specs.shelf.Lists.{All}
 use Rattle.std.specs.shelf.Text.{sameBytes}
-use Rattle.machine.specs.declared.node.Entry.{Entry}
-use Rattle.text.specs.declared.read.parts.Parts.{Parts}
 use Rattle.text.specs.declared.refusal.TextRefusal.{TextRefusal}
 use Rattle.text.specs.Causes.{causeNumber}
 use Rattle.text.specs.Cuts.{parts, left}
-use Rattle.text.specs.Entries.{EntryFits}
 use Rattle.text.specs.Numbers.{valueOf}
-use Rattle.text.specs.Limits.{textLimit, nodeNumberLimit}
-use Rattle.text.specs.Print.{entryWords, trailerWords}
-use Rattle.text.specs.declared.cause.Cause.{Cause}
-use Rattle.std.specs.declared.result.Result.{Result}
-use Rattle.std.specs.Results.{Cases}
-use Rattle.machine.specs.Limits.{nodeLimit}
+use Rattle.text.specs.Limits.{textLimit}
 use Rattle.text.specs.Rows.{Due, exactly, label, name, register, cell, value, fault, count, target, wordFault, rowFault, nodeDues}
 
+-- a refusal's number, line and word
 abbrev pub Place : Type 0
 Place = ℕ × ℕ × ℕ
 
--- what a refusal tells: its number, line and word
 abbrev pub refusalTold : TextRefusal → Place
 refusalTold f = (causeNumber (f .cause), f .line, f .word)
 
@@ -41,12 +30,6 @@ isTrailer l = sameBytes (getD (words l) 0 []) (codes "end")
 
 abbrev pub trailerDues : List Due
 trailerDues = exactly (codes "end") ∷ count ∷ exactly (codes "from") ∷ target ∷ []
-
--- r is what the trailer's words tell, or the first fault, of the word whose number is `number`
-abbrev pub TrailerRead : List (List ℕ) → Result (ℕ × ℕ) Cause → ℕ → Type 0
-TrailerRead ws r number =
-    Cases r (λ x. (ws ≡ trailerWords (x .0) (x .1)) × (rowFault wordFault trailerDues 1 ws ≡ None) × (x .0 ≤ nodeNumberLimit) × (x .1 ≤ nodeNumberLimit))
-    (λ e. rowFault wordFault trailerDues 1 ws ≡ Some (causeNumber e, number))
 
 -- what is due in a line that stands below `next` nodes
 abbrev pub lineDues : ℕ → List ℕ → List Due
@@ -87,44 +70,20 @@ targetFault n fault w = None
 targetFault n count w = None
 targetFault n target w = cond (ltb (valueOf w) n) None (Some 7)
 
+-- the first such of the lines below `next` nodes: each target in its line, and last the first node in the trailer
 abbrev pub targetsFault : ℕ → ℕ → List (List ℕ) → Option Place
 targetsFault n next [] = None
 targetsFault n next (l ∷ []) = None
 targetsFault n next (l ∷ m ∷ ls) = onLine (next + 1) (rowFault (targetFault n) (lineDues next l) 1 (words l)) (targetsFault n (next + 1) (m ∷ ls))
 
+-- the first of two faults
 abbrev pub either : Option Place → Option Place → Option Place
 either None g = g
 either (Some f) g = Some f
 
+-- a text that is too long, or else the first fault of its lines, or else a target that names none of its nodes;
+-- the parts of a text are its lines and what stands after the last line feed, so a text without fault has two more than nodes
 abbrev pub textFault : List ℕ → Option Place
 textFault text =
     cond (ltb textLimit (length text)) (Some (1, 0, 0))
     (either (linesFault 0 (parts 10 text)) (targetsFault (length (parts 10 text) - 2) 0 (parts 10 text)))
-
--- the printed lines of nodes, without their line feeds
-abbrev pub nodeTexts : ℕ → List Entry → List (List ℕ)
-nodeTexts n [] = []
-nodeTexts n (e ∷ es) = rejoined 32 (entryWords n e) ∷ nodeTexts (n + 1) es
-
--- from s to t the lines of `count` nodes were read, and then the trailer's line
-pub record NodesOk (s : Parts) (entries : List Entry) (count : ℕ) (trailer : List ℕ) (t : Parts) : Type 0 where
-  pub spelled : left s ≡ nodeTexts 0 (take count entries) ++ trailer ∷ left t
-  pub goes-on : linesFault 0 (left s) ≡ linesFault count (trailer ∷ left t)
-  pub ends : isTrailer trailer ≡ true
-  pub ended : 0 < length (left t)
-  pub fit : All EntryFits (take count entries)
-  pub small : count ≤ nodeLimit
-  pub number : t .number ≡ count + 1
-
--- the lines of a text are those of n nodes and of the trailer that tells n and the first node, and have no fault
-pub record LinesOk (ls : List (List ℕ)) (entries : List Entry) (n first : ℕ) : Type 0 where
-  pub spelled : ls ≡ nodeTexts 0 (take n entries) ++ rejoined 32 (trailerWords n first) ∷ [] ∷ []
-  pub passes : linesFault 0 ls ≡ None
-  pub fit : All EntryFits (take n entries)
-  pub small : n ≤ nodeLimit
-  pub some : 0 < n
-  pub first-small : first ≤ nodeNumberLimit
-
-abbrev pub LinesRead : List ℕ → List Entry → Result (ℕ × ℕ) TextRefusal → Type 0
-LinesRead text entries r =
-    Cases r (λ x. LinesOk (parts 10 text) entries (x .0) (x .1)) (λ f. linesFault 0 (parts 10 text) ≡ Some (refusalTold f))

@@ -15,7 +15,8 @@ ghost use Rattle.std.specs.Results.{Cases};
 ghost use Rattle.std.specs.declared.option.Option.the-variants.{Some};
 ghost use Rattle.machine.specs.Limits.{nodeLimit};
 ghost use Rattle.text.specs.Cuts.{left};
-ghost use Rattle.text.specs.Texts.{isTrailer, nothingLeft, LinesRead, NodesOk, linesFault, refusalTold};
+ghost use Rattle.text.specs.LineReads.{LinesRead, NodesOk};
+ghost use Rattle.text.specs.Texts.{isTrailer, nothingLeft, linesFault, refusalTold};
 
 /// Tells whether the line's first word is `end`.
 fn is_trailer(line: &[u8]) -> bool

@@ -4,7 +4,7 @@ use crate::cause::Cause;
 use crate::read::parts::Parts;
 ghost use mathlib.Core.Path.{_≡_};
 ghost use Rattle.text.specs.Cuts.{left};
-ghost use Rattle.text.specs.Texts.{TrailerRead};
+ghost use Rattle.text.specs.LineReads.{TrailerRead};
 use machine::node::NodeNumber;
 
 /// The number of nodes that the trailer tells, and the first node.

@@ -11,7 +11,7 @@ use Rattle.machine.proofs.Held.{held-program}
 use Rattle.text.specs.Limits.{textLimit}
 use Rattle.text.specs.Print.{printed}
 use Rattle.printer.specs.Prints.{Printed}
-use Rattle.text.specs.Reads.{ReadsBack}
+use Rattle.text.specs.Reads.{SpellsJust}
 use Rattle.printer.proofs.Long.{printed-fits}
 use Rattle.text.proofs.ReadLaws.{reads-back}
 use Rattle.printer.proofs.print.print.Needs as need
@@ -37,7 +37,7 @@ long-enough text front before same long =
 fits : (p : Program) → length (printed (programOf p)) ≤ textLimit
 fits p = printed-fits (programOf p) (held-program p)
 
-back : (p : Program) → ReadsBack (programOf p)
+back : (p : Program) → SpellsJust (printed (programOf p)) (programOf p)
 back p = reads-back (programOf p) (held-program p) (fits p)
 
 pub push-program-requires : need.push-program-requires

@@ -7,7 +7,9 @@ use Rattle.std.specs.declared.option.Option.the-variants.{Some, None}
 use Rattle.machine.specs.declared.program.Program.{Program}
 use Rattle.machine.specs.Limits.{nodeLimit}
 use Rattle.machine.specs.Programs.{Prog, prog, programOf, checked}
-use Rattle.text.proofs.ReadLaws.{target-fails, first-fails, is-checked, spelled}
+use Rattle.machine.proofs.Held.{held-program}
+use Rattle.text.specs.Print.{printed}
+use Rattle.text.proofs.ReadLaws.{target-fails, first-fails, is-checked, passes, prints, spells-just}
 use Rattle.text.proofs.read.read.Needs as need
 
 same-program : (p q : Prog) → Some p ≡ Some q → p ≡ q
@@ -41,6 +43,9 @@ returns c =
     let good =
     is-checked (c .args .text .now) (c .read-lines .last .entries) (c .in-Continue-count .count) (c .in-Continue-count .first) (c .if-text-gt-TEXT-LIMIT .left) room (c .in-Continue-count .ensures tt)
     (c .bad-targets .result) (c .bad-targets .ensures) (c .in-rest .is) (c .if-first-count .left) in
-    spelled (c .args .text .now) (c .read-lines .last .entries) (c .in-Continue-count .count) (c .in-Continue-count .first) (c .if-text-gt-TEXT-LIMIT .left) room (c .in-Continue-count .ensures tt)
-    (c .bad-targets .result) (c .bad-targets .ensures) (c .in-rest .is) (c .if-first-count .left)
-    (programOf (c .in-Some-from-table .program)) (same-program _ _ (c .in-Some-from-table .ensures tt ∙ good))
+    let same = same-program _ _ (c .in-Some-from-table .ensures tt ∙ good) in
+    spells-just (c .args .text .now) (programOf (c .in-Some-from-table .program)) (held-program (c .in-Some-from-table .program))
+    (passes (c .args .text .now) (c .read-lines .last .entries) (c .in-Continue-count .count) (c .in-Continue-count .first) (c .if-text-gt-TEXT-LIMIT .left) room (c .in-Continue-count .ensures tt)
+    (c .bad-targets .result) (c .bad-targets .ensures) (c .in-rest .is) (c .if-first-count .left))
+    (ap printed same ∙ prints (c .args .text .now) (c .read-lines .last .entries) (c .in-Continue-count .count) (c .in-Continue-count .first) (c .if-text-gt-TEXT-LIMIT .left) room (c .in-Continue-count .ensures tt)
+    (c .bad-targets .result) (c .bad-targets .ensures) (c .in-rest .is) (c .if-first-count .left))
