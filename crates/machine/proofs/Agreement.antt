@@ -1,6 +1,5 @@
 -- A run under limits is the beginning of the run without them.
 use mathlib.Core.Bool.{Bool, true, false, cond}
-use mathlib.Core.List.{List}
 use mathlib.Core.Path.{_≡_, refl, sym, ap, subst, _∙_}
 use native.Mathlib.Nat.{add-zero, zero-add}
 use native.Mathlib.Omega.{arith}
@@ -8,9 +7,9 @@ use Prim.Native.Nat.{ℕ, zero, suc, _+_, _<_, _≤_}
 use lib.ListN.{length, getD}
 use Rattle.machine.specs.declared.outcome.Stop.{Stop}
 use Rattle.machine.specs.declared.outcome.Stop.the-variants.{Ended, Spent, Full}
-use Rattle.machine.specs.Laws.{GoesOn, StopMeans, Begins, LimitedBegins}
+use Rattle.machine.specs.Laws.{GoesOn, StopMeans, LimitedBegins}
 use Rattle.machine.specs.Programs.{Prog}
-use Rattle.machine.specs.Runs.{Config, running, ended, step, follow, after, entryOf, Report, report, continue, limited, whole, start, fresh}
+use Rattle.machine.specs.Runs.{Config, running, step, follow, after, entryOf, Report, report, continue, limited, whole, start, fresh}
 use Rattle.machine.specs.State.{State}
 use Rattle.machine.specs.Step.{Effect, leaves, ends, act, blocked}
 

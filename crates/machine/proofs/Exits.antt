@@ -1,22 +1,21 @@
 -- The exits of a sound entry lead into the program.
 use mathlib.Core.Bool.{Bool, true, false, cond, _&&_}
 use mathlib.Core.List.{List, [], _∷_}
-use mathlib.Core.Path.{_≡_, sym, ap, _∙_, refl, subst}
+use mathlib.Core.Path.{_≡_, sym}
 use native.Mathlib.Omega.{arith}
 use Prim.Native.Nat.{ℕ, _<_}
 use lib.Dec.{ltb, eqb}
-use lib.ListN.{getD, length}
+use lib.ListN.{getD}
 use Rattle.std.specs.declared.option.Option.{Option}
 use Rattle.std.specs.declared.option.Option.the-variants.{Some, None}
 use Rattle.std.proofs.shelf.Tests.{and-parts, ltb-true}
 use Rattle.machine.specs.declared.node.Node.{Node}
 use Rattle.machine.specs.declared.node.Node.the-variants.{Mov, Binary, In, Out, Ld, St, Br, Skip, Halt, Fail}
-use Rattle.machine.specs.declared.node.Exits.{Exits}
 use Rattle.machine.specs.declared.node.Exits.the-variants as exits
 use Rattle.machine.specs.declared.node.Entry.{Entry}
 use Rattle.machine.specs.Arithmetic.{computed}
 use Rattle.machine.specs.State.{State, value}
-use Rattle.machine.specs.Step.{act, leaves, ends, keep, readInto}
+use Rattle.machine.specs.Step.{act, leaves, keep, readInto}
 use Rattle.machine.specs.WellFormed.{Sound, leads, exitsOf}
 use Rattle.machine.proofs.Entries.{sound-parts}
 

@@ -2,13 +2,13 @@
 use mathlib.Core.List.{List}
 use mathlib.Core.Path.{_≡_, sym, ap, subst}
 use native.Mathlib.Omega.{arith}
-use Prim.Native.Nat.{ℕ, _-_, _≤_, _<_}
+use Prim.Native.Nat.{ℕ, _-_}
 use lib.ListN.{length, take}
 use Rattle.std.proofs.shelf.Lists.{getD-take, length-take-le}
 use Rattle.machine.specs.declared.node.Entry.{Entry}
 use Rattle.machine.specs.declared.program.Program.{Program}
 use Rattle.machine.specs.Programs.{programOf, IsProgram}
-use Rattle.machine.specs.WellFormed.{AllSound, Sound, entryAt, blank}
+use Rattle.machine.specs.WellFormed.{AllSound, Sound, blank}
 use Rattle.machine.proofs.Tables.{long-enough}
 
 pub held-count : (p : Program) → length (programOf p .entries) ≡ p .count

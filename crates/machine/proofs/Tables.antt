@@ -1,16 +1,15 @@
 -- Writing an entry of a table keeps every entry sound.
-use mathlib.Core.Bool.{true, false, _&&_}
+use mathlib.Core.Bool.{true, false}
 use mathlib.Core.List.{List, [], _∷_, _++_}
 use mathlib.Core.Logic.{⊎-elim, _≢_}
 use mathlib.Core.Path.{_≡_, sym, ap, subst, _∙_, refl}
 use native.Mathlib.Omega.{arith}
-use borrow.Author.Count.{below-more}
 use Prim.Native.Nat.{ℕ, _+_, _<_, _≤_}
 use lib.Dec.{ltb, leb}
 use lib.ListN.{length, getD, set, take}
 use Rattle.std.proofs.shelf.Elements.{all-getD, all-from-getD}
-use Rattle.std.proofs.shelf.Lists.{getD-set-same, getD-set-other, getD-take, getD-past, length-set, length-take-le, take-more-set}
-use Rattle.std.proofs.shelf.Tests.{cases-eq, cases-lt, cases-bool, and-parts, and-from, and-right, cond-false, ltb-true, lt-ltb, le-leb, both-ways}
+use Rattle.std.proofs.shelf.Lists.{getD-set-same, getD-set-other, getD-take, getD-past, length-take-le}
+use Rattle.std.proofs.shelf.Tests.{cases-eq, cases-lt, and-parts, and-from, and-right, cond-false, ltb-true, lt-ltb, le-leb}
 use Rattle.std.proofs.shelf.Ways.{decides-by-and}
 use Rattle.std.specs.Orderings.{Decides}
 use Rattle.std.specs.shelf.Lists.{All}
@@ -66,15 +65,6 @@ module _ (count : ℕ) (entries : List Entry) (n : ℕ) (fits : n ≤ length ent
       every-decides count (take n entries) .1
       (all-from-getD (Sound count) (take n entries) blank
       (λ k below. let l : k < n = omega (arith, length-take-le n entries fits) in subst (λ (x : Entry). Sound count x) (sym (place k l)) (all k l)))
-
-  pub everySound-false : (k : ℕ) → k < n → sound count (entryAt entries k) ≡ false → everySound count (take n entries) ≡ false
-  everySound-false k below bad =
-      ⊎-elim
-      (λ t. absurd (both-ways (sound count (entryAt entries k)) bad
-      (subst (λ (x : Entry). Sound count x) (place k below)
-      (all-getD (Sound count) (take n entries) k blank (omega (arith, length-take-le n entries fits)) (every-decides count (take n entries) .0 t)))))
-      (λ f. f)
-      (cases-bool (everySound count (take n entries)))
 
 -- no entry is sound past the end of the list
 pub long-enough : (n : ℕ) (entries : List Entry) → AllSound n entries → n ≤ length entries

@@ -1,12 +1,11 @@
 -- Nodes lead from valid states to valid states.
 use mathlib.Core.Bool.{Bool, true, false, cond}
-use mathlib.Core.List.{List, [], _∷_, _++_}
-use mathlib.Core.Path.{_≡_, refl, sym, ap, _∙_}
+use mathlib.Core.List.{List, [], _∷_}
+use mathlib.Core.Path.{_≡_, refl, _∙_}
 use native.Mathlib.Nat.{div-le-self, mod-le}
 use native.Mathlib.Omega.{arith}
 use borrow.Author.Needs.{needs}
-use Prim.Native.Nat.{ℕ, zero, suc, _+_, _-_, _*_, _/_, _%_, _^_, _<_, _≤_}
-use lib.Bits.{bitAnd, bitOr, bitXor}
+use Prim.Native.Nat.{ℕ, zero, suc, _-_, _/_, _%_, _^_, _<_}
 use lib.Dec.{eqb, ltb}
 use lib.ListN.{length, getD, set}
 use Rattle.std.specs.declared.option.Option.{Option}
@@ -27,11 +26,11 @@ use Rattle.machine.specs.Limits.{cellCount}
 use Rattle.machine.specs.Laws.{ValidAt, StaysValid}
 use Rattle.machine.specs.Programs.{Prog, IsProgram}
 use Rattle.machine.specs.Runs.{Config, running, ended, entryOf, follow, step, after, start, fresh}
-use Rattle.machine.specs.State.{State, state, withReg, value, Words, Valid}
+use Rattle.machine.specs.State.{State, withReg, value, Words, Valid}
 use Rattle.machine.specs.Step.{Effect, leaves, ends, keep, readInto, act}
 use Rattle.machine.proofs.Entries.{sound-parts}
 use Rattle.machine.proofs.Exits.{exit-leads}
-use Rattle.machine.specs.WellFormed.{isOperand, isRegister, isCell, isNode}
+use Rattle.machine.specs.WellFormed.{isOperand, isRegister, isNode}
 
 abbrev stateAfter : Effect → State
 stateAfter (leaves e s) = s

@@ -7,7 +7,7 @@ use lib.ListN.{length}
 use Rattle.machine.specs.declared.outcome.Stop.{Stop}
 use Rattle.machine.specs.declared.outcome.Stop.the-variants.{Ended, Spent, Full}
 use Rattle.machine.specs.Limits.{cellCount}
-use Rattle.machine.specs.Programs.{Prog, IsProgram}
+use Rattle.machine.specs.Programs.{Prog}
 use Rattle.machine.specs.Runs.{Config, running, ended, entryOf, Report, unlimited, whole}
 use Rattle.machine.specs.State.{State, Words, Valid}
 use Rattle.machine.specs.Step.{blocked}

@@ -1,12 +1,11 @@
 -- Runs of a program: step by step without limits, and under a budget with a buffer for the words written.
-use mathlib.Core.Bool.{Bool, cond}
+use mathlib.Core.Bool.{cond}
 use mathlib.Core.List.{List, [], _∷_, _++_}
 use Prim.Native.Nat.{ℕ, zero, suc, _+_, _-_}
 use lib.Dec.{eqb, leb}
 use lib.ListN.{getD, replicate, length, drop}
 use Rattle.std.specs.declared.result.Result.{Result}
 use Rattle.std.specs.declared.result.Result.the-variants.{Ok, Err}
-use Rattle.machine.specs.declared.node.Node.{Node}
 use Rattle.machine.specs.declared.node.Entry.{Entry}
 use Rattle.machine.specs.declared.outcome.Ending.{Ending}
 use Rattle.machine.specs.declared.outcome.Stop.{Stop}

@@ -2,7 +2,7 @@
 ghost use mathlib.Core.Bool.{true, false};
 ghost use mathlib.Core.Path.{_≡_};
 ghost use Prim.Native.Nat.{_≤_};
-ghost use lib.ListN.{length, set, drop};
+ghost use lib.ListN.{length, drop};
 ghost use Rattle.machine.specs.State.{value};
 ghost use Rattle.machine.specs.Step.{act, effect, blocked};
 ghost use Rattle.machine.specs.Progress.{stateOf, regsSet, beginning, outcomeOf};

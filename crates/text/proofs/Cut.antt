@@ -1,15 +1,15 @@
 -- Laws of cutting.
 use mathlib.Core.Path.{_≡_, refl, sym, ap, subst, _∙_}
-use mathlib.Core.Bool.{Bool, true, false, cond}
-use mathlib.Core.List.{List, [], _∷_, _++_}
+use mathlib.Core.Bool.{cond}
+use mathlib.Core.List.{List, [], _∷_}
 use Prim.Native.Nat.{ℕ, zero, suc, _+_, _-_, _≤_, _<_}
 use native.Mathlib.Omega.{arith}
-use lib.Dec.{eqb, ltb}
+use lib.Dec.{ltb}
 use lib.ListN.{length, getD, take, drop}
-use mathlib.Core.Logic.{_⊎_, inl, inr}
+use mathlib.Core.Logic.{inl, inr}
 use Rattle.std.proofs.shelf.Lists.{at-drop-more, at-drop-all, drop-drop, length-drop}
 use Rattle.std.proofs.shelf.Tests.{eq-eqb, ne-eqb, le-ltb, lt-ltb, cases-lt}
-use Rattle.text.specs.Cuts.{parts, grown}
+use Rattle.text.specs.Cuts.{parts}
 
 -- what stands past the first part
 abbrev pub after : ℕ → List ℕ → List (List ℕ)

@@ -9,14 +9,14 @@ use lib.Dec.{eqb, ltb}
 use lib.ListN.{length, getD, drop}
 use Rattle.std.specs.declared.option.Option.{Option}
 use Rattle.std.specs.declared.option.Option.the-variants.{Some, None}
-use Rattle.std.specs.Text.{asciiDigit, In}
+use Rattle.std.specs.Text.{asciiDigit}
 use Rattle.std.specs.Written.{decimal}
 use Rattle.std.specs.shelf.Text.{allDigits}
-use Rattle.std.proofs.shelf.Lists.{at-drop-more, at-drop-all}
+use Rattle.std.proofs.shelf.Lists.{at-drop-more}
 use Rattle.std.proofs.shelf.Numerals.{Numerals, numerals-by-fold}
 use Rattle.std.proofs.shelf.Decimals.{decimal-value, digits-decimal, value-decimal, decimal-some, first-decimal, decimal-digit}
-use mathlib.Core.Logic.{_⊎_, inl, inr}
-use Rattle.std.proofs.shelf.Tests.{and-parts, and-from, and-left, and-right, and-cases, cases-lt, ne-eqb, eq-eqb, lt-ltb, le-ltb, ltb-true, ltb-false, eqb-false}
+use mathlib.Core.Logic.{inl, inr}
+use Rattle.std.proofs.shelf.Tests.{and-parts, and-from, and-right, and-cases, cases-lt, ne-eqb, lt-ltb, le-ltb, ltb-true, ltb-false, eqb-false}
 use Rattle.text.specs.Numbers.{valueAfter, valueOf, isNumeral, leadingZero, numberFault}
 
 pub own : Numerals (λ ds. allDigits ds ≡ true) valueOf

@@ -1,12 +1,12 @@
 -- The line of a node, as a whole.
-use mathlib.Core.Path.{_≡_, refl, sym, ap, subst, _∙_}
+use mathlib.Core.Path.{_≡_, sym, ap, _∙_}
 use mathlib.Core.List.{List, [], _∷_, _++_, append-nil}
 use Prim.Native.Nat.{ℕ, _+_}
 use lib.ListN.{getD}
 use Rattle.std.specs.declared.option.Option.{Option}
 use Rattle.std.specs.declared.option.Option.the-variants.{Some, None}
 use Rattle.std.specs.declared.result.Result.{Result}
-use Rattle.std.specs.declared.result.Result.the-variants.{Ok, Err}
+use Rattle.std.specs.declared.result.Result.the-variants.{Err}
 use Rattle.text.specs.declared.cause.Cause.{Cause}
 use Rattle.machine.specs.declared.node.Entry.{Entry}
 use Rattle.machine.specs.declared.node.Node.{Node}
@@ -15,13 +15,13 @@ use Rattle.text.specs.declared.read.parts.Parts.{Parts}
 use Rattle.text.specs.Causes.{causeNumber}
 use Rattle.text.specs.Cuts.{left}
 use Rattle.text.specs.Entries.{EntryRead, TargetsFit}
-use Rattle.text.specs.Print.{operandWords, exitWords, labelWord}
+use Rattle.text.specs.Print.{operandWords, exitWords}
 use Rattle.text.specs.RowReads.{RowOk, RowErr}
 use Rattle.text.specs.Rows.{Due, label, name, wordFault, rowFault, kindNamed, duesPast, operandDues, exitDues, nodeDues, nodeFault}
 use Rattle.text.specs.Kinds.{kindName, kindExits, kindOf}
 use Rattle.machine.specs.WellFormed.{exitsOf}
 use Rattle.text.proofs.KindLaws.{kind-exits}
-use Rattle.text.proofs.RowLaws.{ok-ok, ok-err, err-more}
+use Rattle.text.proofs.RowLaws.{ok-ok, ok-err}
 
 -- the exit of a `?`, once the fault is known
 pub entry-exit : (next : ℕ) (ws : List (List ℕ)) (r : Result Entry Cause) (y e : Cause) (n : ℕ) → r ≡ Err y → y ≡ e → nodeFault next ws ≡ Some (causeNumber e, n) → EntryRead next ws r n

@@ -1,14 +1,14 @@
 -- An entry that fits the text, and one that is sound in a program.
-use mathlib.Core.Bool.{Bool, true, false, _&&_}
-use mathlib.Core.List.{List, [], _∷_}
-use mathlib.Core.Path.{_≡_, refl, sym, ap, subst, _∙_}
+use mathlib.Core.Bool.{true, _&&_}
+use mathlib.Core.List.{List}
+use mathlib.Core.Path.{_≡_, refl, ap}
 use native.Mathlib.Omega.{arith}
-use Prim.Native.Nat.{ℕ, _+_, _≤_, _<_}
+use Prim.Native.Nat.{ℕ, _≤_, _<_}
 use lib.Dec.{eqb, ltb}
 use lib.ListN.{length, getD}
 use Rattle.std.specs.shelf.Lists.{All}
-use Rattle.std.proofs.shelf.Elements.{all-getD, all-from-getD}
-use Rattle.std.proofs.shelf.Tests.{and-parts, and-from, ltb-true, lt-ltb, eqb-true, eq-eqb}
+use Rattle.std.proofs.shelf.Elements.{all-from-getD}
+use Rattle.std.proofs.shelf.Tests.{and-parts, and-from, ltb-true, lt-ltb, eqb-true}
 use Rattle.machine.specs.declared.node.Entry.{Entry}
 use Rattle.machine.specs.declared.node.Exits.{Exits}
 use Rattle.machine.specs.declared.node.Exits.the-variants as exits
@@ -18,7 +18,7 @@ use Rattle.machine.specs.declared.node.Operand.{Operand}
 use Rattle.machine.specs.declared.node.Operand.the-variants.{Reg, Num}
 use Rattle.machine.specs.Limits.{nodeLimit}
 use Rattle.machine.specs.Programs.{Prog, IsProgram}
-use Rattle.machine.specs.WellFormed.{isRegister, isCell, isOperand, isNode, exitsOf, leads, Sound, AllSound, blank, entryAt}
+use Rattle.machine.specs.WellFormed.{isRegister, isCell, isOperand, isNode, exitsOf, leads, Sound, blank, entryAt}
 use Rattle.machine.proofs.Entries.{sound-parts, sound-from}
 use Rattle.text.specs.Entries.{NodeFits, TargetsFit, EntryFits}
 use Rattle.text.specs.Targets.{usedTargets, TargetsBelow}

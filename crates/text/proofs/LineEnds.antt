@@ -1,18 +1,16 @@
 -- The lines of a text, once those of the nodes are read.
-use mathlib.Core.Path.{_≡_, refl, sym, ap, subst, _∙_}
+use mathlib.Core.Path.{_≡_, sym, ap, _∙_}
 use mathlib.Core.Bool.{Bool, true, false, cond, _&&_}
-use mathlib.Core.Logic.{_⊎_, inl, inr}
+use mathlib.Core.Logic.{inl, inr}
 use mathlib.Core.List.{List, [], _∷_, _++_}
 use Prim.Native.Nat.{ℕ, _+_, _≤_, _<_}
 use native.Mathlib.Omega.{arith}
 use lib.Dec.{eqb, ltb}
 use lib.ListN.{length, getD, take, drop}
-use Rattle.std.specs.declared.option.Option.{Option}
 use Rattle.std.specs.declared.option.Option.the-variants.{Some, None}
 use Rattle.std.specs.Pieces.{rejoined}
-use Rattle.std.specs.Written.{decimal}
-use Rattle.std.proofs.shelf.Lists.{nil-from-length, length-drop, drop-all, drop-more}
-use Rattle.std.proofs.shelf.Tests.{and-parts, and-from, and-left, and-right, cases-bool, cases-eq, cases-lt, eqb-true, eq-eqb, ne-eqb, lt-ltb, le-ltb}
+use Rattle.std.proofs.shelf.Lists.{nil-from-length, drop-all, drop-more}
+use Rattle.std.proofs.shelf.Tests.{and-parts, and-from, and-left, and-right, cases-bool, cases-lt, eqb-true, eq-eqb, ne-eqb, lt-ltb, le-ltb}
 use Rattle.machine.specs.declared.node.Entry.{Entry}
 use Rattle.text.specs.declared.read.parts.Parts.{Parts}
 use Rattle.text.specs.Cuts.{parts, grown, left}
@@ -21,7 +19,7 @@ use Rattle.text.specs.Numbers.{valueOf}
 use Rattle.text.specs.Print.{trailerWords}
 use Rattle.text.specs.Rows.{wordFault, rowFault}
 use Rattle.text.specs.LineReads.{nodeTexts, NodesOk, LinesOk}
-use Rattle.text.specs.Texts.{Place, words, isTrailer, onLine, linesFault, trailerDues, trailerFault, nothingLeft}
+use Rattle.text.specs.Texts.{words, isTrailer, onLine, linesFault, trailerDues, trailerFault, nothingLeft}
 use Rattle.text.proofs.Decimal.{written-is-read}
 use Rattle.text.proofs.TextLaws.{parts-some, join-parts}
 
@@ -82,11 +80,6 @@ module _ (ls : List (List ℕ)) (s t : Parts) (es : List Entry) (n : ℕ) (l : L
 
     value-told : valueOf (getD (words l) 1 []) ≡ told
     value-told = ap (λ (v : List (List ℕ)). valueOf (getD v 1 [])) (sym cut ∙ tells) ∙ written-is-read nodeNumberLimit told (omega arith) small .1
-
-    pub more-below : nothingLeft (left t) ≡ false → linesFault 0 ls ≡ Some (6, t .number + 1, 0)
-    more-below h =
-        let e : n + 2 ≡ t .number + 1 = omega (arith, ok .number) in
-        past ∙ rw h (ap (λ k. Some (6, k, 0)) e)
 
     module _ (ends : nothingLeft (left t) ≡ true) where
       count-checked : linesFault 0 ls ≡ cond (ltb 0 n && eqb (valueOf (getD (words l) 1 [])) n) None (Some (6, n + 1, 2))

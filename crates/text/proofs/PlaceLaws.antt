@@ -1,15 +1,14 @@
 -- Parts and their places.
-use mathlib.Core.Path.{_≡_, refl, sym, ap, subst, _∙_}
-use mathlib.Core.Bool.{Bool, true, false, cond, _&&_}
-use mathlib.Core.List.{List, [], _∷_, _++_}
+use mathlib.Core.Path.{_≡_, sym, ap, subst, _∙_}
+use mathlib.Core.Bool.{true, _&&_}
+use mathlib.Core.List.{List, [], _∷_}
 use Prim.Native.Nat.{ℕ, zero, suc, _+_, _-_, _≤_, _<_}
 use native.Mathlib.Omega.{arith}
 use native.Mathlib.Numerals.{add-one}
-use lib.Dec.{eqb, ltb}
+use lib.Dec.{ltb}
 use lib.ListN.{length, getD, take, drop}
 use Rattle.std.proofs.shelf.Lists.{length-drop, length-take-le, drop-take, take-take, drop-drop}
-use mathlib.Core.Logic.{_⊎_, inl, inr}
-use Rattle.std.proofs.shelf.Tests.{lt-ltb, le-ltb, ltb-true, and-parts, and-from, cases-bool, both-ways}
+use Rattle.std.proofs.shelf.Tests.{lt-ltb, and-from}
 use Rattle.text.specs.Cuts.{parts}
 use Rattle.text.specs.PlaceOf.{partStart, PartAt, WordAt, lineOf, isWord, wordOf, wordStart}
 use Rattle.text.proofs.Cut.{leftAt, cut-step}
@@ -35,9 +34,6 @@ head (p ∷ ps) (suc i) w more h =
 pub record At (s : ℕ) (text : List ℕ) (i start : ℕ) : Type 0 where
   pub left : leftAt s text start ≡ drop i (parts s text)
   pub place : start ≡ partStart (parts s text) i
-
-pub at-first : (s : ℕ) (text : List ℕ) → At s text 0 0
-at-first s text = record { left = rw (le-ltb (length text) 0 (omega arith)); place = refl }
 
 none-left : (ps : List (List ℕ)) (i : ℕ) → drop i ps ≡ [] → length ps ≤ i
 none-left ps i h = omega (arith, length-drop i ps, ap length h)

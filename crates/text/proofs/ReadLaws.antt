@@ -1,6 +1,6 @@
 -- A text whose lines have no fault.
-use mathlib.Core.Path.{_≡_, refl, sym, ap, subst, _∙_}
-use mathlib.Core.Bool.{Bool, true, false, cond}
+use mathlib.Core.Path.{_≡_, refl, sym, ap, _∙_}
+use mathlib.Core.Bool.{cond}
 use mathlib.Core.List.{List, [], _∷_, _++_}
 use Prim.Native.Nat.{ℕ, _+_, _-_, _≤_, _<_}
 use native.Mathlib.Omega.{arith}
@@ -9,9 +9,7 @@ use lib.ListN.{length, getD, take}
 use Rattle.std.specs.declared.option.Option.{Option}
 use Rattle.std.specs.declared.option.Option.the-variants.{Some, None}
 use Rattle.std.specs.Pieces.{rejoined}
-use Rattle.std.specs.Written.{decimal}
 use Rattle.std.specs.shelf.Lists.{All}
-use Rattle.std.proofs.shelf.Elements.{all-weaker}
 use Rattle.std.proofs.shelf.Lists.{length-take-le, length-append}
 use Rattle.std.proofs.shelf.Tests.{lt-ltb, le-ltb}
 use Rattle.machine.specs.declared.node.Entry.{Entry}
@@ -21,10 +19,10 @@ use Rattle.machine.specs.WellFormed.{Sound}
 use Rattle.machine.proofs.Tables.{every-from-all, checked-good}
 use Rattle.text.specs.Cuts.{parts}
 use Rattle.text.specs.Entries.{EntryFits}
-use Rattle.text.specs.Limits.{textLimit, nodeNumberLimit}
+use Rattle.text.specs.Limits.{textLimit}
 use Rattle.text.specs.Numbers.{valueOf}
 use Rattle.text.specs.Print.{entryWords, trailerWords, printed}
-use Rattle.text.specs.Reads.{Spells, SpellsJust}
+use Rattle.text.specs.Reads.{SpellsJust}
 use Rattle.text.specs.Targets.{badTargets, TargetsBelow}
 use Rattle.text.specs.LineReads.{nodeTexts, LinesOk}
 use Rattle.text.specs.Texts.{Place, words, either, linesFault, targetsFault, textFault}

@@ -1,15 +1,13 @@
 -- What is printed has no fault, and is cut into the words that it was made of.
-use mathlib.Core.Path.{_≡_, refl, sym, ap, subst, _∙_}
-use mathlib.Core.Bool.{Bool, true, false, cond, _&&_}
+use mathlib.Core.Path.{_≡_, refl, ap, _∙_}
+use mathlib.Core.Bool.{true, false}
 use mathlib.Core.List.{List, [], _∷_, _++_}
 use Prim.Native.Nat.{ℕ, _+_, _-_, _≤_, _<_, _^_}
 use native.Mathlib.Omega.{arith}
 use borrow.Author.Needs.{needs}
-use lib.Chars.{codes}
-use lib.Dec.{eqb, ltb}
-use lib.ListN.{length, getD, take, drop}
-use Rattle.std.specs.declared.option.Option.{Option}
-use Rattle.std.specs.declared.option.Option.the-variants.{Some, None}
+use lib.Dec.{eqb}
+use lib.ListN.{length, getD, take}
+use Rattle.std.specs.declared.option.Option.the-variants.{None}
 use Rattle.std.specs.Pieces.{rejoined}
 use Rattle.std.specs.Text.{asciiDigit}
 use Rattle.std.specs.Written.{decimal}
@@ -29,14 +27,14 @@ use Rattle.machine.specs.declared.node.Node.{Node}
 use Rattle.machine.specs.declared.node.Node.the-variants.{Mov, Binary, In, Out, Ld, St, Br, Skip, Halt, Fail}
 use Rattle.machine.specs.declared.node.Operand.{Operand}
 use Rattle.machine.specs.declared.node.Operand.the-variants.{Reg, Num}
-use Rattle.text.specs.Cuts.{parts, grown}
+use Rattle.text.specs.Cuts.{parts}
 use Rattle.text.specs.Entries.{NodeFits, TargetsFit, EntryFits}
 use Rattle.text.specs.Numbers.{numberFault, valueOf}
 use Rattle.text.specs.Print.{operandWord, operandWords, exitWords, entryWords, labelWord}
-use Rattle.text.specs.Rows.{Due, wordFault, rowFault, operandDues, exitDues, nodeDues, nodeFault, kindNamed, labelFault, first, value, duesPast}
+use Rattle.text.specs.Rows.{Due, wordFault, rowFault, operandDues, exitDues, nodeFault, labelFault, value}
 use Rattle.text.specs.WordReads.{OperandFits}
 use Rattle.machine.specs.WellFormed.{exitsOf}
-use Rattle.text.specs.Kinds.{kindName, kindOf, kindExits}
+use Rattle.text.specs.Kinds.{kindName, kindOf}
 use Rattle.text.proofs.KindLaws.{kind-exits, kind-known}
 use Rattle.text.proofs.Decimal.{own, written-is-read}
 

@@ -1,16 +1,15 @@
 -- Rows of words, one after another.
-use mathlib.Core.Path.{_≡_, refl, sym, ap, subst, _∙_}
-use mathlib.Core.List.{List, [], _∷_, _++_, append-assoc}
-use Prim.Native.Nat.{ℕ, _+_, _-_, _≤_, _<_}
+use mathlib.Core.Path.{_≡_, sym, ap, _∙_}
+use mathlib.Core.List.{List, _++_, append-assoc}
+use Prim.Native.Nat.{ℕ, _+_, _-_}
 use native.Mathlib.Omega.{arith}
-use lib.ListN.{length, length-append}
-use Rattle.std.specs.declared.option.Option.the-variants.{Some, None}
+use lib.ListN.{length-append}
 use Rattle.text.specs.declared.read.parts.Parts.{Parts}
 use Rattle.text.specs.Cuts.{left}
 use Rattle.text.specs.Rows.{Due, wordFault, rowFault, operandDues, exitDues}
 use Rattle.text.specs.RowReads.{RowOk, RowErr, RowRead}
 use Rattle.std.specs.declared.result.Result.{Result}
-use Rattle.std.specs.declared.result.Result.the-variants.{Ok, Err}
+use Rattle.std.specs.declared.result.Result.the-variants.{Err}
 use Rattle.text.specs.declared.cause.Cause.{Cause}
 use Rattle.text.specs.declared.kind.Kind.{Kind}
 use Rattle.text.specs.Causes.{causeNumber}

@@ -1,19 +1,19 @@
 -- The targets of a text's lines, told by the entries that the lines spell.
-use mathlib.Core.Path.{_≡_, refl, sym, ap, subst, _∙_}
+use mathlib.Core.Path.{_≡_, refl, ap, _∙_}
 use mathlib.Core.Bool.{Bool, true, false, cond}
 use mathlib.Core.List.{List, [], _∷_, _++_}
 use Prim.Native.Nat.{ℕ, _+_, _-_, _≤_, _<_}
 use native.Mathlib.Omega.{arith}
 use lib.Chars.{codes}
 use lib.Dec.{ltb}
-use lib.ListN.{length, getD, take}
+use lib.ListN.{length, getD}
 use Rattle.std.specs.declared.option.Option.{Option}
 use Rattle.std.specs.declared.option.Option.the-variants.{Some, None}
 use Rattle.std.specs.Pieces.{rejoined}
 use Rattle.std.specs.Written.{decimal}
 use Rattle.std.specs.shelf.Lists.{All}
 use Rattle.std.specs.shelf.Text.{sameBytes}
-use Rattle.std.proofs.shelf.Lists.{length-append, length-take-le}
+use Rattle.std.proofs.shelf.Lists.{length-append}
 use Rattle.machine.specs.declared.node.Entry.{Entry}
 use Rattle.machine.specs.declared.node.Exits.{Exits}
 use Rattle.machine.specs.declared.node.Exits.the-variants as exits
@@ -21,18 +21,17 @@ use Rattle.machine.specs.declared.node.Node.{Node}
 use Rattle.machine.specs.declared.node.Node.the-variants.{Mov, Binary, In, Out, Ld, St, Br, Skip, Halt, Fail}
 use Rattle.machine.specs.WellFormed.{exitsOf}
 use Rattle.text.specs.Entries.{TargetsFit, EntryFits}
-use Rattle.text.specs.Kinds.{kindOf, kindExits}
-use Rattle.text.specs.Numbers.{valueOf}
+use Rattle.text.specs.Kinds.{kindOf}
 use Rattle.text.specs.Print.{entryWords, operandWords, exitWords, trailerWords}
 use Rattle.text.specs.Rows.{Due, rowFault, placed, operandDues, exitDues, nodeDues, target}
 use Rattle.text.specs.Targets.{usedTargets, TargetsBelow, firstNotBelow, badTarget, onEntry, badTargets}
-use Rattle.text.specs.LineReads.{nodeTexts, LinesOk}
+use Rattle.text.specs.LineReads.{nodeTexts}
 use Rattle.text.specs.Texts.{Place, words, isTrailer, onLine, lineDues, trailerDues, targetFault, targetsFault}
 use Rattle.text.proofs.KindLaws.{kind-exits, kind-known}
 use Rattle.text.proofs.Telling.{number-back}
 use Rattle.text.proofs.Whole.{entry-cut, entry-no-trailer, trailer-cut}
-use Rattle.std.proofs.shelf.Tests.{cases-bool, lt-ltb, le-ltb, ltb-true}
-use mathlib.Core.Logic.{_⊎_, inl, inr}
+use Rattle.std.proofs.shelf.Tests.{cases-bool, lt-ltb, ltb-true}
+use mathlib.Core.Logic.{inl, inr}
 
 abbrev seventh : Option ℕ → Option (ℕ × ℕ)
 seventh None = None

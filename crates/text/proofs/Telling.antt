@@ -1,8 +1,8 @@
 -- A printed line tells its node: each part of the node is found again in the words.
-use mathlib.Core.Path.{_≡_, refl, sym, ap, subst, _∙_}
+use mathlib.Core.Path.{_≡_, refl, sym, ap, _∙_}
 use mathlib.Core.Bool.{cond}
 use mathlib.Core.List.{List, [], _∷_, _++_}
-use Prim.Native.Nat.{ℕ, _+_, _≤_, _<_, _^_}
+use Prim.Native.Nat.{ℕ, _+_, _<_, _^_}
 use native.Mathlib.Omega.{arith}
 use lib.Dec.{eqb}
 use lib.ListN.{length, getD, drop}
@@ -21,11 +21,11 @@ use Rattle.machine.specs.declared.node.Operand.{Operand}
 use Rattle.machine.specs.declared.node.Operand.the-variants.{Reg, Num}
 use Rattle.text.specs.Entries.{NodeFits, TargetsFit, EntryFits}
 use Rattle.text.specs.Numbers.{valueOf}
-use Rattle.text.specs.Print.{operandWord, operandWords, exitWords, entryWords, labelWord}
+use Rattle.text.specs.Print.{operandWord, operandWords, exitWords, entryWords}
 use Rattle.text.specs.Rows.{kindNamed, operandDues}
 use Rattle.text.specs.WordReads.{OperandFits}
 use Rattle.machine.specs.WellFormed.{exitsOf}
-use Rattle.text.specs.Kinds.{kindName, kindOf, kindExits}
+use Rattle.text.specs.Kinds.{kindOf, kindExits}
 use Rattle.text.proofs.KindLaws.{kind-exits, kind-known}
 use Rattle.text.proofs.Decimal.{own}
 

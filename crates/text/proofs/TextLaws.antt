@@ -1,27 +1,26 @@
 -- Lines, one after another.
-use mathlib.Core.Path.{_≡_, refl, sym, ap, subst, _∙_}
-use mathlib.Core.Bool.{Bool, true, false, cond, _&&_}
-use mathlib.Core.Logic.{_⊎_, inl, inr}
+use mathlib.Core.Path.{_≡_, refl, sym, ap, _∙_}
+use mathlib.Core.Bool.{false, cond}
+use mathlib.Core.Logic.{inl, inr}
 use mathlib.Core.List.{List, [], _∷_, _++_, append-assoc}
 use Prim.Native.Nat.{ℕ, _+_, _-_, _≤_, _<_}
 use native.Mathlib.Omega.{arith}
 use lib.Dec.{eqb, ltb}
-use lib.ListN.{length, getD, take, drop, set}
-use Rattle.std.specs.declared.option.Option.{Option}
+use lib.ListN.{length, take, drop, set}
 use Rattle.std.specs.declared.option.Option.the-variants.{Some, None}
 use Rattle.std.specs.Pieces.{rejoined}
 use Rattle.std.specs.shelf.Lists.{All}
 use Rattle.std.proofs.shelf.Elements.{all-push}
 use Rattle.std.proofs.shelf.Lists.{take-more-set, length-take-le, length-set}
-use Rattle.std.proofs.shelf.Tests.{cases-bool, eqb-true, eqb-false, le-ltb, lt-ltb, ne-eqb}
+use Rattle.std.proofs.shelf.Tests.{cases-bool, eqb-true, eqb-false, ne-eqb}
 use Rattle.machine.specs.declared.node.Entry.{Entry}
 use Rattle.text.specs.declared.read.parts.Parts.{Parts}
 use Rattle.text.specs.Cuts.{parts, grown, left}
 use Rattle.text.specs.Entries.{EntryFits}
 use Rattle.text.specs.Print.{entryWords}
-use Rattle.text.specs.Rows.{wordFault, rowFault, nodeFault}
+use Rattle.text.specs.Rows.{nodeFault}
 use Rattle.text.specs.LineReads.{nodeTexts}
-use Rattle.text.specs.Texts.{Place, words, isTrailer, onLine, linesFault, lineDues, trailerFault}
+use Rattle.text.specs.Texts.{words, isTrailer, onLine, linesFault}
 
 grown-some : (c : ℕ) (ws : List (List ℕ)) → 0 < length ws → 0 < length (grown c ws)
 grown-some c [] h = h

@@ -1,12 +1,11 @@
 -- The trailer's line, as a whole.
-use mathlib.Core.Path.{_≡_, refl, sym, ap, subst, _∙_}
+use mathlib.Core.Path.{_≡_, sym, ap, _∙_}
 use mathlib.Core.List.{List, [], _∷_, _++_, append-nil}
-use Prim.Native.Nat.{ℕ, _+_, _≤_}
+use Prim.Native.Nat.{ℕ, _+_}
 use lib.Chars.{codes}
-use Rattle.std.specs.declared.option.Option.{Option}
 use Rattle.std.specs.declared.option.Option.the-variants.{Some, None}
 use Rattle.std.specs.declared.result.Result.{Result}
-use Rattle.std.specs.declared.result.Result.the-variants.{Ok, Err}
+use Rattle.std.specs.declared.result.Result.the-variants.{Err}
 use Rattle.std.specs.Written.{decimal}
 use Rattle.text.specs.declared.cause.Cause.{Cause}
 use Rattle.text.specs.declared.read.parts.Parts.{Parts}
@@ -17,7 +16,7 @@ use Rattle.text.specs.RowReads.{RowOk, RowErr}
 use Rattle.text.specs.Rows.{Due, exactly, count, target, wordFault, rowFault}
 use Rattle.text.specs.LineReads.{TrailerRead}
 use Rattle.text.specs.Texts.{trailerDues}
-use Rattle.text.proofs.RowLaws.{ok-ok, ok-err, err-more}
+use Rattle.text.proofs.RowLaws.{ok-ok, ok-err}
 
 pub trailer-exit : (ws : List (List ℕ)) (r : Result (ℕ × ℕ) Cause) (y e : Cause) (n : ℕ) → r ≡ Err y → y ≡ e → rowFault wordFault trailerDues 1 ws ≡ Some (causeNumber e, n) → TrailerRead ws r n
 trailer-exit ws r y e n p q h = rw (p, q) h

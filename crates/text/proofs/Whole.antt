@@ -1,13 +1,13 @@
 -- A printed text, line by line.
-use mathlib.Core.Path.{_≡_, refl, sym, ap, subst, _∙_}
-use mathlib.Core.Bool.{Bool, true, false, cond, _&&_}
+use mathlib.Core.Path.{_≡_, refl, sym, ap, _∙_}
+use mathlib.Core.Bool.{false, cond}
 use mathlib.Core.List.{List, [], _∷_, _++_, append-assoc, append-nil}
-use Prim.Native.Nat.{ℕ, _+_, _-_, _≤_, _<_, _^_}
+use Prim.Native.Nat.{ℕ, _+_, _-_, _≤_, _<_}
 use native.Mathlib.Omega.{arith}
 use borrow.Author.Needs.{needs}
 use lib.Chars.{codes}
 use lib.Dec.{eqb, ltb}
-use lib.ListN.{length, getD, take, drop}
+use lib.ListN.{length, getD}
 use Rattle.std.specs.declared.option.Option.{Option}
 use Rattle.std.specs.declared.option.Option.the-variants.{Some, None}
 use Rattle.std.specs.Pieces.{rejoined}
@@ -15,7 +15,7 @@ use Rattle.std.specs.Written.{decimal}
 use Rattle.std.specs.shelf.Lists.{All}
 use Rattle.std.specs.shelf.Text.{sameBytes}
 use Rattle.std.proofs.shelf.Elements.{all-append, all-weaker}
-use Rattle.std.proofs.shelf.Lists.{length-take-le, length-append, getD-push}
+use Rattle.std.proofs.shelf.Lists.{length-append, getD-push}
 use Rattle.std.proofs.shelf.Tests.{and-from, eq-eqb, ne-eqb, lt-ltb}
 use Rattle.machine.specs.declared.node.Entry.{Entry}
 use Rattle.text.specs.Cuts.{parts}
@@ -25,11 +25,11 @@ use Rattle.text.specs.Print.{entryWords, line, nodeLines, trailerWords, printe
 use Rattle.text.specs.Rows.{wordFault, rowFault, nodeFault}
 use Rattle.machine.specs.Programs.{Prog}
 use Rattle.text.specs.LineReads.{nodeTexts}
-use Rattle.text.specs.Texts.{Place, words, isTrailer, onLine, linesFault, lineDues, trailerDues, trailerFault}
+use Rattle.text.specs.Texts.{Place, words, isTrailer, onLine, linesFault, trailerDues, trailerFault}
 use Rattle.text.proofs.Decimal.{written-is-read}
 use Rattle.text.proofs.RoundTrip.{Lacks, Solid, solid-lacks, decimal-solid, parts-join, parts-front, entry-solid, entry-no-fault, good-none, number-good}
 use Rattle.text.proofs.LineEnds.{trailer-line}
-use Rattle.text.proofs.TextLaws.{node-goes-on, parts-some}
+use Rattle.text.proofs.TextLaws.{node-goes-on}
 use Rattle.text.proofs.WordLaws.{same-false}
 
 -- a line of solid words has no line feed

@@ -9,7 +9,6 @@ use Rattle.text.specs.declared.cause.Cause.{Cause}
 use Rattle.machine.specs.declared.node.Entry.{Entry}
 use Rattle.machine.specs.declared.node.Exits.{Exits}
 use Rattle.machine.specs.declared.node.Exits.the-variants as exits
-use Rattle.text.specs.declared.read.parts.Parts.{Parts}
 use Rattle.text.specs.Causes.{causeNumber}
 use Rattle.text.specs.Cuts.{left}
 use Rattle.text.specs.Print.{entryWords}

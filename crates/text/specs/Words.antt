@@ -1,16 +1,16 @@
 -- The words of a line, one by one.
 use mathlib.Core.Path.{_≡_}
-use mathlib.Core.Bool.{Bool, true, false, cond, _&&_}
-use mathlib.Core.List.{List, [], _∷_, _++_}
-use Prim.Native.Nat.{ℕ, _+_, _-_, _*_, _≤_, _<_}
+use mathlib.Core.Bool.{Bool, false, cond}
+use mathlib.Core.List.{List, [], _∷_}
+use Prim.Native.Nat.{ℕ, _-_, _<_}
 use lib.Chars.{codes}
-use lib.Dec.{eqb, ltb}
-use lib.ListN.{length, getD, take, drop}
+use lib.Dec.{eqb}
+use lib.ListN.{length, getD, take}
 use Rattle.std.specs.declared.option.Option.{Option}
 use Rattle.std.specs.declared.option.Option.the-variants.{Some, None}
 use Rattle.std.specs.declared.result.Result.{Result}
-use Rattle.std.specs.declared.result.Result.the-variants.{Ok, Err}
-use Rattle.std.specs.Options.{Cases, isSome}
+use Rattle.std.specs.declared.result.Result.the-variants.{Err}
+use Rattle.std.specs.Options.{Cases}
 use Rattle.std.specs.shelf.Text.{sameBytes}
 use Rattle.text.specs.declared.cause.Cause.{Cause}
 use Rattle.text.specs.declared.cause.Cause.the-variants.{IllFormed}

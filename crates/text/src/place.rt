@@ -1,7 +1,6 @@
 // Where a word of a text stands.
 
 use crate::read::parts::find;
-ghost use mathlib.Core.Path.{_≡_};
 ghost use Prim.Native.Nat.{_+_, _≤_, _<_};
 ghost use lib.ListN.{length};
 ghost use Rattle.std.specs.Options.{Cases};

@@ -8,15 +8,14 @@ use crate::refusal::TextRefusal;
 use machine::node::Entry;
 use machine::node::NodeNumber;
 ghost use mathlib.Core.Path.{_≡_};
-ghost use Prim.Native.Nat.{_+_, _≤_, _<_};
-ghost use lib.Dec.{eqb};
+ghost use Prim.Native.Nat.{_+_, _<_};
 ghost use lib.ListN.{length};
 ghost use Rattle.std.specs.Results.{Cases};
 ghost use Rattle.std.specs.declared.option.Option.the-variants.{Some};
 ghost use Rattle.machine.specs.Limits.{nodeLimit};
 ghost use Rattle.text.specs.Cuts.{left};
 ghost use Rattle.text.specs.LineReads.{LinesRead, NodesOk};
-ghost use Rattle.text.specs.Texts.{isTrailer, nothingLeft, linesFault, refusalTold};
+ghost use Rattle.text.specs.Texts.{isTrailer, linesFault, refusalTold};
 
 /// Tells whether the line's first word is `end`.
 fn is_trailer(line: &[u8]) -> bool

@@ -2,7 +2,6 @@
 
 ghost use mathlib.Core.Path.{_≡_};
 ghost use lib.ListN.{length};
-ghost use Rattle.std.specs.Options.{mapped};
 ghost use Rattle.text.specs.Print.{operandWords};
 ghost use Rattle.text.specs.Targets.{badTarget, badTargets};
 use machine::node::Entry;

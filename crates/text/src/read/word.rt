@@ -1,6 +1,5 @@
 // The words of a line, each by what is due in its place.
 ghost use mathlib.Core.Path.{_≡_};
-ghost use lib.ListN.{length, getD};
 ghost use Rattle.std.specs.Options.{mapped};
 ghost use Rattle.text.specs.Words.{Sorted, BinaryRead, KindRead, KindIn, isArrow, NumberIn, beforeColon, afterLetter, digitsOf};
 use crate::cause::Cause;

@@ -1,12 +1,10 @@
-use mathlib.Core.Path.{_≡_, sym, ap, _∙_}
-use mathlib.Core.List.{List}
+use mathlib.Core.Path.{_≡_, ap, _∙_}
 use native.Mathlib.Omega.{arith}
 use Prim.Native.Nat.{ℕ}
 use lib.ListN.{length}
-use Rattle.std.specs.declared.option.Option.the-variants.{Some, None}
-use Rattle.machine.specs.declared.program.Program.{Program}
+use Rattle.std.specs.declared.option.Option.the-variants.{Some}
 use Rattle.machine.specs.Limits.{nodeLimit}
-use Rattle.machine.specs.Programs.{Prog, prog, programOf, checked}
+use Rattle.machine.specs.Programs.{Prog, programOf}
 use Rattle.machine.proofs.Held.{held-program}
 use Rattle.text.specs.Print.{printed}
 use Rattle.text.proofs.ReadLaws.{target-fails, first-fails, is-checked, passes, prints, spells-just}

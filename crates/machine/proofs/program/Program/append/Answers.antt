@@ -1,6 +1,6 @@
-use mathlib.Core.Path.{_≡_, sym, ap}
+use mathlib.Core.Path.{sym, ap}
 use native.Mathlib.Omega.{arith}
-use Prim.Native.Nat.{_+_, _≤_}
+use Prim.Native.Nat.{_+_}
 use lib.ListN.{length}
 use Rattle.std.proofs.shelf.Tests.{and-from, le-leb}
 use Rattle.machine.specs.Programs.{prog}

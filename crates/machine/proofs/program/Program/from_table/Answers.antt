@@ -1,8 +1,5 @@
-use mathlib.Core.Path.{_≡_, sym, ap, _∙_}
+use mathlib.Core.Path.{sym, ap, _∙_}
 use native.Mathlib.Omega.{arith}
-use borrow.Author.Needs.{needs}
-use lib.ListN.{length}
-use Prim.Native.Nat.{_≤_}
 use Rattle.machine.specs.Programs.{everySound}
 use Rattle.machine.proofs.Held.{from-start}
 use Rattle.machine.proofs.Tables.{every-all, checked-good, checked-bad}

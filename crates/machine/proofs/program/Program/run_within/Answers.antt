@@ -1,14 +1,8 @@
-use mathlib.Core.Path.{_≡_, sym, ap, _∙_}
-use native.Mathlib.Omega.{arith}
+use mathlib.Core.Path.{sym}
 use borrow.Author.Needs.{needs}
-use Prim.Native.Nat.{_<_}
-use lib.ListN.{length}
 use Rattle.std.proofs.shelf.Lists.{getD-take}
-use Rattle.machine.specs.declared.outcome.Outcome.{Outcome}
-use Rattle.machine.specs.Programs.{programOf}
-use Rattle.machine.specs.Runs.{entryOf}
-use Rattle.machine.specs.WellFormed.{blank, entryAt}
-use Rattle.machine.proofs.Running.{Finished, spent, full, over, next}
+use Rattle.machine.specs.WellFormed.{blank}
+use Rattle.machine.proofs.Running.{spent, full, over, next}
 use Rattle.machine.proofs.program.Program.run_within.Needs as need
 
 pub returns-then-is-blocked : need.returns-then-is-blocked

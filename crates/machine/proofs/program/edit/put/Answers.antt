@@ -1,10 +1,9 @@
 use mathlib.Core.List.{List, [], _∷_, _++_, append-assoc, append-nil}
 use mathlib.Core.Path.{_≡_, sym, ap, _∙_}
 use native.Mathlib.Omega.{arith}
-use borrow.Author.Needs.{needs}
-use Prim.Native.Nat.{ℕ, _+_, _<_, _≤_}
+use Prim.Native.Nat.{ℕ, _+_, _<_}
 use lib.ListN.{length, take, set, getD}
-use Rattle.std.proofs.shelf.Lists.{take-more, take-more-set, take-all, length-set}
+use Rattle.std.proofs.shelf.Lists.{take-more, take-more-set, take-all}
 use Rattle.machine.specs.declared.node.Entry.{Entry}
 use Rattle.machine.specs.WellFormed.{blank}
 use Rattle.machine.proofs.program.edit.put.Needs as need

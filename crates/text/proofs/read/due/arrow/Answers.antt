@@ -1,4 +1,4 @@
-use mathlib.Core.Path.{_≡_, sym}
+use mathlib.Core.Path.{sym}
 use lib.Chars.{codes}
 use Rattle.std.proofs.shelf.Equals.{sameBytes-decides}
 use Rattle.text.proofs.read.due.arrow.Needs as need

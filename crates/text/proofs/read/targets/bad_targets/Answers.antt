@@ -1,9 +1,9 @@
-use mathlib.Core.Path.{_≡_, sym, ap, _∙_}
-use lib.ListN.{drop, getD}
+use mathlib.Core.Path.{sym, ap, _∙_}
+use lib.ListN.{drop}
 use Prim.Native.Nat.{_+_}
 use Rattle.std.proofs.shelf.Lists.{at-drop-more, at-drop-all}
 use Rattle.machine.specs.WellFormed.{blank}
-use Rattle.text.specs.Targets.{badTarget, badTargets, onEntry}
+use Rattle.text.specs.Targets.{badTargets, onEntry}
 use Rattle.text.proofs.read.targets.bad_targets.Needs as need
 
 pub returns-in-Some : need.returns-in-Some

@@ -1,6 +1,6 @@
 use native.Mathlib.Omega.{arith}
 use borrow.Author.Tests.{ltb-true, ltb-false}
-use Rattle.text.proofs.Spelled.{two, three, four}
+use Rattle.text.proofs.Spelled.{two, three}
 use Rattle.text.proofs.read.word.binary_op.Needs as need
 
 pub returns-in-97 : need.returns-in-97

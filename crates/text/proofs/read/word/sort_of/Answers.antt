@@ -1,7 +1,7 @@
 use borrow.Author.Tests.{ltb-true, ltb-false}
 use lib.ListN.{length, getD}
 use mathlib.Core.Path.{_≡_}
-use Prim.Native.Nat.{_<_, _≤_}
+use Prim.Native.Nat.{_≤_}
 use native.Mathlib.Omega.{arith}
 use Rattle.std.proofs.shelf.Lists.{getD-past}
 use Rattle.text.proofs.read.word.sort_of.Needs as need
