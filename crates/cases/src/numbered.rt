@@ -132,7 +132,7 @@ static NUMBERED: [Numbered; 17] = [
     },
 ];
 
-pub fn try_numbered(
+pub(crate) fn try_numbered(
     rt: &(impl Print + Alloc<A = Global>),
     session: &mut Session,
 ) -> io::Result<()> {

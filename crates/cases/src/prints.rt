@@ -32,7 +32,7 @@ fn try_print(
 }
 
 /// Prints the program of a new session.
-pub fn try_prints(rt: &(impl Print + Alloc<A = Global>)) -> io::Result<()> {
+pub(crate) fn try_prints(rt: &(impl Print + Alloc<A = Global>)) -> io::Result<()> {
     let session = Session::new();
     for room in &ROOMS {
         try_print(rt, &session, *room)?;

@@ -21,7 +21,7 @@ use std::io;
 const KEPT: &[u8] = b"0: skip -> 1\n1: halt\nend 2 from 1\n";
 
 /// Tries the texts on a session whose program they leave as it was.
-pub fn try_refused(rt: &impl Print, session: &mut Session) -> io::Result<()> {
+pub(crate) fn try_refused(rt: &impl Print, session: &mut Session) -> io::Result<()> {
     try_text(rt, session, "kept", KEPT)?;
     try_texts(rt, session, &LINES)?;
     try_texts(rt, session, &WORDS)?;

@@ -76,7 +76,10 @@ fn try_run(
     show_buffers(rt, cells.as_slice(), output.as_slice())
 }
 
-pub fn try_runs(rt: &(impl Print + Alloc<A = Global>), session: &mut Session) -> io::Result<()> {
+pub(crate) fn try_runs(
+    rt: &(impl Print + Alloc<A = Global>),
+    session: &mut Session,
+) -> io::Result<()> {
     for run in &RUNS {
         try_run(rt, session, run)?;
     }

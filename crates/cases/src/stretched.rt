@@ -133,7 +133,7 @@ static STRETCHED: [Stretched; 15] = [
     },
 ];
 
-pub fn try_stretched(
+pub(crate) fn try_stretched(
     rt: &(impl Print + Alloc<A = Global>),
     session: &mut Session,
 ) -> io::Result<()> {

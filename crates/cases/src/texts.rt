@@ -31,7 +31,12 @@ fn compared(session: &Session, text: &[u8]) -> &'static str {
     }
 }
 
-pub fn show_held(rt: &impl Print, session: &Session, name: &str, text: &[u8]) -> io::Result<()> {
+pub(crate) fn show_held(
+    rt: &impl Print,
+    session: &Session,
+    name: &str,
+    text: &[u8],
+) -> io::Result<()> {
     let printed = compared(session, text);
     println!(rt, "{name}: {printed}")
 }
@@ -53,7 +58,12 @@ fn show_refusal(rt: &impl Print, name: &str, text: &[u8], refusal: TextRefusal) 
 }
 
 /// Reads the text into the session.
-pub fn try_text(rt: &impl Print, session: &mut Session, name: &str, text: &[u8]) -> io::Result<()> {
+pub(crate) fn try_text(
+    rt: &impl Print,
+    session: &mut Session,
+    name: &str,
+    text: &[u8],
+) -> io::Result<()> {
     match session.read(text) {
         Ok(nodes) => {
             let printed = compared(session, text);
@@ -67,7 +77,7 @@ pub fn try_text(rt: &impl Print, session: &mut Session, name: &str, text: &[u8])
     }
 }
 
-pub fn try_texts(rt: &impl Print, session: &mut Session, cases: &[Case]) -> io::Result<()> {
+pub(crate) fn try_texts(rt: &impl Print, session: &mut Session, cases: &[Case]) -> io::Result<()> {
     for case in cases {
         try_text(rt, session, case.name, case.text)?;
     }

@@ -1,7 +1,7 @@
 // How a run ends, and why one is refused.
 use std::fmt;
 
-// How a node ends a run.
+/// How a node ends a run.
 #[derive(Clone, Copy, PartialEq, Eq, Debug)]
 pub enum Ending {
     Halted,
@@ -10,14 +10,14 @@ pub enum Ending {
     Dry,
 }
 
-// What a node did: the run goes on by one of the node's exits, or is over.
+/// What a node did: the run goes on by one of the node's exits, or is over.
 #[derive(Clone, Copy)]
 pub enum Acted {
     Left(usize),
     Over(Ending),
 }
 
-// Why a run stopped: a node ended it, the budget was used up, or the output buffer was full.
+/// Why a run stopped: a node ended it, the budget was used up, or the output buffer was full.
 #[derive(Clone, Copy, PartialEq, Eq, Debug)]
 pub enum Stop {
     Ended(Ending),
@@ -33,7 +33,7 @@ pub struct Outcome {
     pub read: usize,
 }
 
-// Why a run is not begun.
+/// Why a run is not begun.
 #[derive(Clone, Copy, PartialEq, Eq, Debug)]
 pub enum RunRefusal {
     WrongCellCount,

@@ -17,7 +17,7 @@ use crate::outcome::Stop;
 use crate::progress::Progress;
 
 impl Progress {
-    // Where every run begins.
+    /// Where every run begins.
     pub(crate) fn new() -> Progress
         ensures { λ r. ⌜ r ≡ beginning ⌝ }
     {
@@ -56,7 +56,7 @@ impl Progress {
         self.registers[to as usize] = word;
     }
 
-    // Runs one node, for whose word there is room.
+    /// Runs one node, for whose word there is room.
     pub(crate) fn perform(
         &mut self,
         node: Node,
@@ -124,7 +124,7 @@ impl Progress {
     }
 }
 
-// Whether a node would write a word for which there is no room.
+/// Whether a node would write a word for which there is no room.
 pub(crate) fn is_blocked(node: Node, room: usize, written: usize) -> bool
     ensures { λ r. ⌜ r ≡ blocked node room written ⌝ }
 {

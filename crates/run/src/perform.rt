@@ -77,7 +77,7 @@ fn read_text(rt: &LibcRuntime, file: &str, text: &mut Vec<u8>) -> Result<(), Fai
 }
 
 /// Reads the requested program, runs it and tells what it did.
-pub fn perform(rt: &LibcRuntime) -> Result<(), Failure> {
+pub(crate) fn perform(rt: &LibcRuntime) -> Result<(), Failure> {
     let request = request(rt)?;
     let mut text = Vec::new(rt.alloc());
     read_text(rt, request.file.as_str(), &mut text)?;

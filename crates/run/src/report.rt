@@ -39,7 +39,7 @@ fn tell_cells(rt: &LibcRuntime, before: &[u32], after: &[u32]) -> io::Result<()>
 }
 
 /// Tells what a run did: how it ended, what it read and wrote, and each cell that it changed.
-pub fn tell_run(rt: &LibcRuntime, report: Report) -> io::Result<()> {
+pub(crate) fn tell_run(rt: &LibcRuntime, report: Report) -> io::Result<()> {
     let nodes = report.nodes;
     let stop = report.outcome.stop;
     let steps = report.outcome.steps;
@@ -55,7 +55,11 @@ pub fn tell_run(rt: &LibcRuntime, report: Report) -> io::Result<()> {
 }
 
 /// Tells why a text is refused, and the word that is wrong.
-pub fn tell_refused_text(rt: &LibcRuntime, refusal: TextRefusal, word: &[u8]) -> io::Result<()> {
+pub(crate) fn tell_refused_text(
+    rt: &LibcRuntime,
+    refusal: TextRefusal,
+    word: &[u8],
+) -> io::Result<()> {
     let number = refusal.cause.number();
     let line = refusal.line;
     let place = refusal.word;
@@ -67,7 +71,7 @@ pub fn tell_refused_text(rt: &LibcRuntime, refusal: TextRefusal, word: &[u8]) ->
 }
 
 /// Tells why a call other than the reading of a text is refused.
-pub fn tell_refused_run(rt: &LibcRuntime, refusal: Refusal) -> io::Result<()> {
+pub(crate) fn tell_refused_run(rt: &LibcRuntime, refusal: Refusal) -> io::Result<()> {
     let number = refusal.number();
     match refusal {
         Refusal::Run(RunRefusal::WrongCellCount) => {
@@ -81,7 +85,7 @@ pub fn tell_refused_run(rt: &LibcRuntime, refusal: Refusal) -> io::Result<()> {
 }
 
 /// Tells what was expected of the arguments, and which is wrong.
-pub fn tell_expected(rt: &LibcRuntime, error: &ArgumentError) -> io::Result<()> {
+pub(crate) fn tell_expected(rt: &LibcRuntime, error: &ArgumentError) -> io::Result<()> {
     rt.println(USAGE)?;
     match error {
         ArgumentError::NoFile => println!(rt, "no file is named"),
@@ -91,6 +95,6 @@ pub fn tell_expected(rt: &LibcRuntime, error: &ArgumentError) -> io::Result<()> 
 }
 
 /// Tells that a file cannot be read.
-pub fn tell_unread(rt: &LibcRuntime, file: &str, error: &io::Error) -> io::Result<()> {
+pub(crate) fn tell_unread(rt: &LibcRuntime, file: &str, error: &io::Error) -> io::Result<()> {
     println!(rt, "cannot read {file}: {error}")
 }

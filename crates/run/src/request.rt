@@ -77,7 +77,7 @@ impl Request {
     }
 
     /// The request that a program's arguments make, its own name first.
-    pub fn from_arguments(heap: Global, mut words: Args) -> Result<Request, ArgumentError> {
+    pub(crate) fn from_arguments(heap: Global, mut words: Args) -> Result<Request, ArgumentError> {
         let _name = words.next();
         let Some(file) = words.next() else {
             return Err(ArgumentError::NoFile);
