@@ -32,7 +32,7 @@ use Rattle.machine.proofs.Entries.{sound-parts}
 use Rattle.machine.proofs.Exits.{exit-leads}
 use Rattle.machine.specs.WellFormed.{isOperand, isRegister, isNode}
 
-abbrev stateAfter : Effect → State
+abbrev pub stateAfter : Effect → State
 stateAfter (leaves e s) = s
 stateAfter (ends k s) = s
 
@@ -101,7 +101,7 @@ module _ (s : State) (ok : Valid s) where
   operand-word o t = value-word (s .regs) o (ok .eight) (ok .regs-fit) t
 
 -- a node that may stand in a program leads from valid states to valid states
-stays-valid : (node : Node) (s : State) → isNode node ≡ true → Valid s → Valid (stateAfter (act node s))
+pub stays-valid : (node : Node) (s : State) → isNode node ≡ true → Valid s → Valid (stateAfter (act node s))
 stays-valid (Mov to from) s t ok = valid-reg s ok to _ (operand-word s ok from (and-parts _ _ t .1))
 stays-valid (Binary op to left right) s t ok =
     let operands = and-parts _ _ (and-parts (isRegister to) _ t .1) in
