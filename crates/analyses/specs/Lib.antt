@@ -1,3 +1,9 @@
 pub mod Reach
+pub mod Entries
+pub mod Operands
+pub mod Folding
+pub mod Constants
+pub mod Copies
 pub mod Arithmetic
 pub mod Branches
+pub mod Standard

@@ -17,7 +17,7 @@ impl Reach {
     pub const REACHED: Reach = Reach { reached: true };
 
     /// Joins `more` into the fact, and tells whether the fact rose.
-    pub fn join(&mut self, more: &Reach) -> bool
+    pub(crate) fn join(&mut self, more: &Reach) -> bool
         ensures after { λ _. ⌜ now (self .exit) ≡ reachFacts .joined (now (self .entry)) (now (more .entry)) ⌝ }
         ensures rose { λ r. ⌜ r ≡ reachFacts .rises (now (self .entry)) (now (more .entry)) ⌝ }
     {
@@ -27,7 +27,7 @@ impl Reach {
     }
 
     /// Proposes one node; nothing at nowhere.
-    pub fn propose_one(self, node: Node, way: u8, set: u16) -> Proposal
+    pub(crate) fn propose_one(self, node: Node, way: u8, set: u16) -> Proposal
         ensures filled { λ r. ⌜ Filled r ⌝ }
         ensures exact { λ r. ⌜ meant r ≡ oneNode self node way set ⌝ }
     {

@@ -45,7 +45,7 @@ divided-word : (b : Bool) (v : ℕ) → v < 2 ^ 32 → found (cond b None (Some 
 divided-word true v h = tt
 divided-word false v h = h
 
-computed-word : (op : BinaryOp) (x y : ℕ) → x < 2 ^ 32 → y < 2 ^ 32 → found (computed op x y) (λ w. w < 2 ^ 32)
+pub computed-word : (op : BinaryOp) (x y : ℕ) → x < 2 ^ 32 → y < 2 ^ 32 → found (computed op x y) (λ w. w < 2 ^ 32)
 computed-word Add x y hx hy = mod-below _ (2 ^ 32) (omega arith)
 computed-word Sub x y hx hy = mod-below _ (2 ^ 32) (omega arith)
 computed-word Mul x y hx hy = mod-below _ (2 ^ 32) (omega arith)

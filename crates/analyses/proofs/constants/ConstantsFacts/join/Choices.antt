@@ -1,0 +1,11 @@
+use mathlib.Core.Path.{_≡_}
+use lib.ListN.{length, take}
+use Rattle.analyses.specs.Entries.{agreeing, anyLost}
+use Rattle.analyses.proofs.constants.ConstantsFacts.join.Given as given
+
+-- the first i entries are made, and it is known whether one of them was lost
+abbrev pub Inv-loop-i : given.InvT-loop-i
+Inv-loop-i l =
+    (take (l .i) (l .values) ≡ agreeing (l .i) (l .fact .values) (l .more .values))
+    × (length (l .values) ≡ 8)
+    × (l .rose ≡ anyLost (l .i) (l .fact .values) (l .more .values))
