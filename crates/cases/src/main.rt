@@ -1,4 +1,6 @@
 // Tries texts, runs and prints, and prints what becomes of each.
+#![tactic(auto)]
+
 mod accepted;
 mod case;
 mod numbered;

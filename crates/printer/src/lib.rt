@@ -1,4 +1,6 @@
 // Prints the text of a program.
+#![tactic(auto)]
+
 mod name;
 mod page;
 pub mod print;

@@ -1,4 +1,6 @@
 // Tries settling and rounds on whole programs, under several piles.
+#![tactic(auto)]
+
 #[cfg(test)]
 mod decided;
 #[cfg(test)]

@@ -1,4 +1,6 @@
 // Runs the program of a text file, and tells what it did.
+#![tactic(auto)]
+
 mod arguments;
 mod perform;
 mod report;

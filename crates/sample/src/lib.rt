@@ -1,3 +1,5 @@
 // An analysis written outside the optimiser, and its use beside any other.
+#![tactic(auto)]
+
 pub mod beside;
 pub mod reached;

@@ -1,4 +1,6 @@
 // The text of a program: what it is, and how it is read.
+#![tactic(auto)]
+
 pub mod cause;
 pub mod kind;
 pub mod place;

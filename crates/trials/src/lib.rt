@@ -1,4 +1,6 @@
 // Tries the analyses on nodes, one by one and in a pile.
+#![tactic(auto)]
+
 #[cfg(test)]
 mod asked;
 #[cfg(test)]
