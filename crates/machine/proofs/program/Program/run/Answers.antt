@@ -5,16 +5,16 @@ use Rattle.machine.proofs.Held.{held_program}
 use Rattle.machine.proofs.Validity.{valid_run}
 use Rattle.machine.proofs.program.Program.run.Goals as goal
 
-pub returns-then-cells-ne-CELL-COUNT : goal.returns-then-cells-ne-CELL-COUNT
-returns-then-cells-ne-CELL-COUNT c =
+pub returns-then-cells-ne-CELL_COUNT : goal.returns-then-cells-ne-CELL_COUNT
+returns-then-cells-ne-CELL_COUNT c =
     record {
       exact = search rules;
       begins = limited_begins (program_of c.args.self.now);
       valid = valid_run (program_of c.args.self.now) (held_program c.args.self.now);
     }
 
-pub returns-then-budget-gt-BUDGET-LIMIT : goal.returns-then-budget-gt-BUDGET-LIMIT
-returns-then-budget-gt-BUDGET-LIMIT c =
+pub returns-then-budget-gt-BUDGET_LIMIT : goal.returns-then-budget-gt-BUDGET_LIMIT
+returns-then-budget-gt-BUDGET_LIMIT c =
     record {
       exact = search rules;
       begins = limited_begins (program_of c.args.self.now);
