@@ -19,7 +19,7 @@ fn is_trailer(line: &[u8]) -> bool
 {
     let mut words = Parts::new(line, b' ');
     match words.next() {
-        Some(word) => word == b"end",
+        Some(word) => word == b"end".as_slice(),
         None => false,
     }
 }

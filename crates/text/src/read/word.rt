@@ -100,7 +100,7 @@ pub(super) fn is_arrow(word: Word) -> bool
     ensures { result ≡ is_arrow word.entry }
 {
     match word {
-        Word::Arrow(part) => part == b"->",
+        Word::Arrow(part) => part == b"->".as_slice(),
         _ => false,
     }
 }

@@ -7,7 +7,7 @@ use Rattle.machine.specs.declared.node.Node.TheVariants.{Mov}
 use Rattle.machine.specs.declared.node.Operand.TheVariants.{Reg}
 use Rattle.analysis.proofs.Looks.{shows_present, meant_present, meant_absent, looked_replaced, looked_last, looked_long, looked_absent, each_next, each_end}
 use Rattle.analysis.proofs.deep.+look.Goals as goal
-use Rattle.analysis.proofs.deep.+look.Goals.{then-depth-lt-DEPTH-LIMIT+else-proposal, else-proposal-via-then-proposal+else-walk-proposal-le-ROW-LIMIT, else-proposal-via-else-proposal, else-depth-lt-DEPTH-LIMIT}
+use Rattle.analysis.proofs.deep.+look.Goals.{then-depth-lt-DEPTH_LIMIT+else-proposal, else-proposal-via-then-proposal+else-walk-proposal-le-ROW_LIMIT, else-proposal-via-else-proposal, else-depth-lt-DEPTH_LIMIT}
 
 pub look-requires : goal.look-requires
 look-requires g t c κs within =
@@ -32,8 +32,8 @@ loop-i-preserved g t c =
       sym (each_next m (looked m (3 - (c.args.depth + 1))) (take r.len r.row) i n c.args.waiting (r.len - i - 1 + c.args.waiting) (course_of c.loop-i.walk) (course_of c.look.new.walk) (omega arith) item (omega arith) c.look.ensures.course) ∙ c.loop-i.invariant.1,
     )
 
-pub returns-then-walk-proposal-le-ROW-LIMIT : goal.returns-then-walk-proposal-le-ROW-LIMIT
-returns-then-walk-proposal-le-ROW-LIMIT g t c =
+pub returns-then-walk-proposal-le-ROW_LIMIT : goal.returns-then-walk-proposal-le-ROW_LIMIT
+returns-then-walk-proposal-le-ROW_LIMIT g t c =
     let m = g.A.Analysis.moves c.args.a.now in
     let r = c.propose-proposal.result in
     let walk = c.args.walk.now in
@@ -46,7 +46,7 @@ returns-then-walk-proposal-le-ROW-LIMIT g t c =
       course =
           sym (each_end m look row c.loop-i.i c.args.waiting (course_of c.loop-i.walk) (omega arith))
           ∙ c.loop-i.invariant.1
-          ∙ ap (each m look row c.args.waiting) c.take-up.ensures.course
+          ∙ ap (each m look row c.args.waiting) c.take_up.ensures.course
           ∙ sym (looked_replaced m (3 - c.args.depth) (3 - (c.args.depth + 1)) c.args.node c.args.waiting (course_of walk) (omega arith) row r.way r.set proposed (omega arith));
       room = omega arith;
     }
@@ -60,20 +60,20 @@ returns g t c =
     let levels = 3 - c.args.depth in
     let deeper = 3 - (c.args.depth + 1) in
     let stays : looked m levels c.args.node c.args.waiting (course_of walk) ≡ kept m c.args.node (course_of walk) =
-    elim c.if-depth-lt-DEPTH-LIMIT.branch [
-      | then-depth-lt-DEPTH-LIMIT+else-proposal w ↦
+    elim c.if-depth-lt-DEPTH_LIMIT.branch [
+      | then-depth-lt-DEPTH_LIMIT+else-proposal w ↦
           let r = w.propose-proposal.result in
           let row = take r.len r.row in
-          let below = w.if-depth-lt-DEPTH-LIMIT.true in
+          let below = w.if-depth-lt-DEPTH_LIMIT.true in
           elim w.else-proposal.branch [
-            | else-proposal-via-then-proposal+else-walk-proposal-le-ROW-LIMIT w' ↦
+            | else-proposal-via-then-proposal+else-walk-proposal-le-ROW_LIMIT w' ↦
                 let len : length (take r.len r.row) ≡ r.len = length-take-le r.len r.row (search rules) in
                 let proposed = sym (meant_present r w'.if-proposal.true) ∙ w.propose-proposal.ensures.exact in
-                looked_long m levels deeper c.args.node c.args.waiting (course_of walk) (omega arith) row r.way r.set proposed (omega (arith, w'.if-walk-proposal-le-ROW-LIMIT.false))
+                looked_long m levels deeper c.args.node c.args.waiting (course_of walk) (omega arith) row r.way r.set proposed (omega (arith, w'.if-walk-proposal-le-ROW_LIMIT.false))
             | else-proposal-via-else-proposal w' ↦
                 looked_absent m levels deeper c.args.node c.args.waiting (course_of walk) (omega arith) (sym (meant_absent r w'.if-proposal.false) ∙ w.propose-proposal.ensures.exact)
           ]
-      | else-depth-lt-DEPTH-LIMIT w ↦ looked_last m levels c.args.node c.args.waiting (course_of walk) (omega (arith, w.if-depth-lt-DEPTH-LIMIT.false))
+      | else-depth-lt-DEPTH_LIMIT w ↦ looked_last m levels c.args.node c.args.waiting (course_of walk) (omega (arith, w.if-depth-lt-DEPTH_LIMIT.false))
     ] in
     record {
       course = c.keep.ensures.course ∙ sym stays;

@@ -6,8 +6,8 @@ use Rattle.analysis.specs.DeepLaws.{deep_sound, done_last_proper}
 use Rattle.analysis.proofs.Replies.{flow_shows}
 use Rattle.analysis.proofs.deep.DeepAnalysis.flow.Goals as goal
 
-pub at-exit-requires : goal.at-exit-requires
-at-exit-requires g c =
+pub at_exit-requires : goal.at_exit-requires
+at_exit-requires g c =
     let inner = c.args.self.now.inner in
     record {
       room = c.follow-walk.ensures.room;
@@ -21,7 +21,7 @@ returns g c =
     let inner = c.args.self.now.inner in
     let m = g.A.Analysis.moves inner in
     let v = g.A.Facts.facts inner in
-    let exact = c.at-exit.ensures ∙ ap (λ (w : Course g.row.A-Fact.Denot). fact_at m v w c.args.exit) c.follow-walk.ensures.course in
+    let exact = c.at_exit.ensures ∙ ap (λ (w : Course g.row.A-Fact.Denot). fact_at m v w c.args.exit) c.follow-walk.ensures.course in
     record {
       exact = exact;
       shows = flow_shows (deep_sound (g.met.A.Analysis.sound inner)) c.args.fact.now c.args.node c.args.exit c.requires exact;
