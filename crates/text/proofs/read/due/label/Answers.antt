@@ -3,13 +3,13 @@ use Rattle.text.proofs.read.due.label.Goals as goal
 
 pub returns-then-number-next : goal.returns-then-number-next
 returns-then-number-next c =
-    label_other c.args.part.now c.in-ok-number.number c.args.next c.in-ok-number.ensures c.if-number-next.true
+    label_other c.args.part.now c.in_ok-number.number c.args.next c.in_ok-number.ensures c.if-number-next.true
 
-pub returns-then-next-eq-NODE-LIMIT : goal.returns-then-next-eq-NODE-LIMIT
-returns-then-next-eq-NODE-LIMIT c =
-    label_full c.args.part.now c.in-ok-number.number c.args.next c.in-ok-number.ensures c.if-number-next.false c.if-next-eq-NODE-LIMIT.true
+pub returns-then-next-eq-NODE_LIMIT : goal.returns-then-next-eq-NODE_LIMIT
+returns-then-next-eq-NODE_LIMIT c =
+    label_full c.args.part.now c.in_ok-number.number c.args.next c.in_ok-number.ensures c.if-number-next.false c.if-next-eq-NODE_LIMIT.true
 
 pub returns : goal.returns
 returns c =
-    let l = label_good c.args.part.now c.in-ok-number.number c.args.next c.in-ok-number.ensures c.if-number-next.false c.if-next-eq-NODE-LIMIT.false in
-    (l.0, l.1, c.if-next-eq-NODE-LIMIT.false)
+    let l = label_good c.args.part.now c.in_ok-number.number c.args.next c.in_ok-number.ensures c.if-number-next.false c.if-next-eq-NODE_LIMIT.false in
+    (l.0, l.1, c.if-next-eq-NODE_LIMIT.false)

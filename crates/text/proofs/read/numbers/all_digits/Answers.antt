@@ -4,13 +4,13 @@ use Rattle.std.proofs.lemmas.List.{at_drop_all}
 use Rattle.text.proofs.Decimal.{digits_more, digits_stop}
 use Rattle.text.proofs.read.numbers.all_digits.Goals as goal
 
-pub returns-then-not-is-ascii-digit : goal.returns-then-not-is-ascii-digit
-returns-then-not-is-ascii-digit c =
-    sym (digits_stop c.args.part.now c.loop-b.b-index c.loop-b-test.true (sym c.if-not-is-ascii-digit.ensures.value)) ∙ c.loop-b.invariant
+pub returns-then-not-is_ascii_digit : goal.returns-then-not-is_ascii_digit
+returns-then-not-is_ascii_digit c =
+    sym (digits_stop c.args.part.now c.loop-b.b-index c.loop-b-test.true (sym c.if-not-is_ascii_digit.ensures.value)) ∙ c.loop-b.invariant
 
 pub loop-b-preserved : goal.loop-b-preserved
 loop-b-preserved c =
-    digits_more c.args.part.now c.loop-b.b-index c.loop-b-test.true (sym c.if-not-is-ascii-digit.ensures.value) ∙ c.loop-b.invariant
+    digits_more c.args.part.now c.loop-b.b-index c.loop-b-test.true (sym c.if-not-is_ascii_digit.ensures.value) ∙ c.loop-b.invariant
 
 pub returns : goal.returns
 returns c = sym (at_drop_all all_ascii_digits c.args.part.now c.loop-b.b-index c.loop-b-test.false) ∙ c.loop-b.invariant

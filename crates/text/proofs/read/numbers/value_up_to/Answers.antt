@@ -4,8 +4,8 @@ use Rattle.text.specs.Numbers.{value_after}
 use Rattle.text.proofs.Decimal.{digits_parts, value_more, value_ge}
 use Rattle.text.proofs.read.numbers.value_up_to.Goals as goal
 
-pub overflow-sub-value : goal.overflow-sub-value
-overflow-sub-value c =
+pub overflow_sub-value : goal.overflow_sub-value
+overflow_sub-value c =
     let d = (digits_parts c.args.part.now c.loop-b.b-index c.loop-b-test.true c.loop-b.invariant.2).0 in search rules
 
 pub returns-then-value-limit : goal.returns-then-value-limit

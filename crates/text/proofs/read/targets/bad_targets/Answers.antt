@@ -12,7 +12,7 @@ returns-in-Some c =
 
 pub loop-i-preserved : goal.loop-i-preserved
 loop-i-preserved c =
-    ap (λ o. on_entry c.loop-i.i o (bad_targets c.args.count (c.loop-i.i + 1) (drop (c.loop-i.i + 1) c.args.entries.now))) c.in-default.ensures
+    ap (λ o. on_entry c.loop-i.i o (bad_targets c.args.count (c.loop-i.i + 1) (drop (c.loop-i.i + 1) c.args.entries.now))) c.in_default.ensures
     ∙ sym (at_drop_more (bad_targets c.args.count c.loop-i.i) c.args.entries.now c.loop-i.i blank c.loop-i-test.true)
     ∙ c.loop-i.invariant
 

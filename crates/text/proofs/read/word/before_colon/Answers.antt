@@ -4,7 +4,7 @@ use Rattle.text.specs.Words.{before_colon}
 use Rattle.text.proofs.read.word.before_colon.Goals as goal
 
 -- an empty word
-pub returns-then-is-empty : goal.returns-then-is-empty
-returns-then-is-empty c =
-    let e : c.args.part.now ≡ [] = nil_from_length c.args.part.now (true-eqb _ _ c.if-is-empty.ensures) in
+pub returns-then-is_empty : goal.returns-then-is_empty
+returns-then-is_empty c =
+    let e : c.args.part.now ≡ [] = nil_from_length c.args.part.now (true-eqb _ _ c.if-is_empty.ensures) in
     subst (λ v. None ≡ before_colon v) (sym e) refl
