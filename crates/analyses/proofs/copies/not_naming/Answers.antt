@@ -12,9 +12,9 @@ pub loop-i-preserved : goal.loop-i-preserved
 loop-i-preserved c =
     let i = c.loop-i.i in
     let room : i < length c.loop-i.sources = omega (arith, c.loop-i.invariant.1) in
-    let more = take_more_set c.loop-i.sources i c.unless-named.result room in
+    let more = take_more_set c.loop-i.sources i c.unless_named.result room in
     let next = cleared_next c.args.register c.args.fact.now.sources i in
-    (cc, length-set c.loop-i.sources i c.unless-named.result ∙ c.loop-i.invariant.1)
+    (cc, length-set c.loop-i.sources i c.unless_named.result ∙ c.loop-i.invariant.1)
 
 pub returns : goal.returns
 returns c =

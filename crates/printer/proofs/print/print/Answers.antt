@@ -35,13 +35,13 @@ fits p = printed_fits (program_of p) (held_program p)
 back : (p : Program) → SpellsJust (printed (program_of p)) (program_of p)
 back p = reads_back (program_of p) (held_program p) (fits p)
 
-pub push-program-requires : goal.push-program-requires
-push-program-requires c =
+pub push_program-requires : goal.push_program-requires
+push_program-requires c =
     omega (arith, ap length c.new-page.ensures, fits c.args.program.now)
 
 pub returns-then-len-out : goal.returns-then-len-out
 returns-then-len-out c =
-    let text = alone _ _ c.text-text.result.now (printed (program_of c.args.program.now)) c.new-page.ensures c.push-program.ensures c.text-text.ensures in
+    let text = alone _ _ c.text-text.result.now (printed (program_of c.args.program.now)) c.new-page.ensures c.push_program.ensures c.text-text.ensures in
     record {
       value = subst (λ (t : List ℕ). Printed t c.args.out.now (Err (length c.text-text.result.now)) c.args.out.now) text
           (too_short c.text-text.result.now c.args.out.now c.if-len-out.true);
@@ -51,11 +51,11 @@ returns-then-len-out c =
 
 pub returns : goal.returns
 returns c =
-    let text = alone _ _ c.text-text.result.now (printed (program_of c.args.program.now)) c.new-page.ensures c.push-program.ensures c.text-text.ensures in
-    let copied = c.copy-from-slice.new.self ++ drop (length c.text-text.result.now - 0) c.args.out.now in
+    let text = alone _ _ c.text-text.result.now (printed (program_of c.args.program.now)) c.new-page.ensures c.push_program.ensures c.text-text.ensures in
+    let copied = c.copy_from_slice.new.self ++ drop (length c.text-text.result.now - 0) c.args.out.now in
     record {
       value = subst (λ (t : List ℕ). Printed t c.args.out.now (Ok (length c.text-text.result.now)) copied) text
-          (long_enough c.text-text.result.now c.copy-from-slice.new.self c.args.out.now c.copy-from-slice.ensures.after c.if-len-out.false);
+          (long_enough c.text-text.result.now c.copy_from_slice.new.self c.args.out.now c.copy_from_slice.ensures.after c.if-len-out.false);
       fits = fits c.args.program.now;
       back = back c.args.program.now;
     }

@@ -14,6 +14,6 @@ returns-then-table-count g c = record {
 pub returns : goal.returns
 returns g c = record {
   exact = call_settles _ _ (program_of c.args.program.now) c.args.table.now _ c.entries-nodes.ensures.value (omega arith) _ _ _ c.first.ensures
-      c.settle-nodes-visits.ensures.exact c.settle-nodes-visits.ensures.visits;
+      c.settle_nodes-visits.ensures.exact c.settle_nodes-visits.ensures.visits;
   settles = settles _ _ (g.met.P.Facts.shown c.args.pile.now) (g.met.P.Analysis.sound c.args.pile.now) (program_of c.args.program.now) (held_program c.args.program.now);
 }

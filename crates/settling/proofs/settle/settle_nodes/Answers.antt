@@ -24,7 +24,7 @@ visit-requires g c =
     let p = prog c.args.nodes.now c.args.first in
     let inv = c.loop-node.invariant in
     let node = c.in-Some.node in
-    let taken = c.take-lowest.new.self in
+    let taken = c.take_lowest.new.self in
     let low = c.in-Some.ensures.value in
     let rest = c.in-Some.ensures.after in
     record {
@@ -43,10 +43,10 @@ pub loop-node-preserved : goal.loop-node-preserved
 loop-node-preserved g c =
     going_visits _ _ (g.met.P.Facts.shown c.args.pile.now) (g.met.P.Analysis.sound c.args.pile.now) (prog c.args.nodes.now c.args.first) c.requires.whole
     _ _ _ c.loop-node.invariant _ _ c.in-Some.ensures.value c.in-Some.ensures.after _ _ c.visit.ensures.exact
-    _ c.saturating-add-visits.ensures c.visit.ensures.within
+    _ c.saturating_add-visits.ensures c.visit.ensures.within
 
 pub returns : goal.returns
 returns g c =
     let done = none_waits _ _ (g.met.P.Facts.shown c.args.pile.now) (g.met.P.Analysis.sound c.args.pile.now) (prog c.args.nodes.now c.args.first) c.requires.whole
-    _ _ _ c.loop-node.invariant c.in-default.ensures.value in
+    _ _ _ c.loop-node.invariant c.in_default.ensures.value in
     record { exact = ap (λ w. w.facts) done.last; visits = done.told }

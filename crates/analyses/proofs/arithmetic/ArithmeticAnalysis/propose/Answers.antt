@@ -8,9 +8,9 @@ use Rattle.analyses.proofs.arithmetic.ArithmeticAnalysis.propose.Goals as goal
 pub returns-in-Some : goal.returns-in-Some
 returns-in-Some c =
     let f = c.args.fact.now in
-    let exact = c.propose-one.ensures.exact ∙ ap (λ (o : Option Node). simpler_proposed f o) c.in-Some.ensures in
+    let exact = c.propose_one.ensures.exact ∙ ap (λ (o : Option Node). simpler_proposed f o) c.in-Some.ensures in
     record {
-      filled = c.propose-one.ensures.filled;
+      filled = c.propose_one.ensures.filled;
       exact = exact;
       shows = proposal_shows arithmetic_sound f c.args.node c.requires exact;
     }

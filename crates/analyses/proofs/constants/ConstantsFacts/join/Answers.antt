@@ -17,7 +17,7 @@ loop-i-preserved c =
     let room : i < length c.loop-i.values = omega (arith, c.loop-i.invariant.1) in
     let more = take_more_set c.loop-i.values i c.agree-both.result room in
     let next = agreeing_next xs ys i in
-    (cc, length-set c.loop-i.values i c.agree-both.result ∙ c.loop-i.invariant.1, any_told xs ys i c.loop-i.rose c.is-some.result c.is-none.result c.agree-both.result c.loop-i.invariant.2 c.agree-both.ensures c.is-some.ensures c.is-none.ensures)
+    (cc, length-set c.loop-i.values i c.agree-both.result ∙ c.loop-i.invariant.1, any_told xs ys i c.loop-i.rose c.is_some.result c.is_none.result c.agree-both.result c.loop-i.invariant.2 c.agree-both.ensures c.is_some.ensures c.is_none.ensures)
 
 pub returns-then-rose : goal.returns-then-rose
 returns-then-rose c =

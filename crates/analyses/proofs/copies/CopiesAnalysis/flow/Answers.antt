@@ -4,6 +4,6 @@ use Rattle.analyses.proofs.copies.CopiesAnalysis.flow.Goals as goal
 
 pub returns : goal.returns
 returns c = record {
-  exact = c.copied-after.ensures;
-  shows = flow_shows copies_sound c.args.fact.now c.args.node c.args.-exit c.requires c.copied-after.ensures;
+  exact = c.copied_after.ensures;
+  shows = flow_shows copies_sound c.args.fact.now c.args.node c.args._exit c.requires c.copied_after.ensures;
 }

@@ -23,14 +23,14 @@ push-requires t c = subst (λ (ds : List ℕ). Room c.args.self.now ds) (decimal
 pub returns-then-n-lt10 : goal.returns-then-n-lt10
 returns-then-n-lt10 t c = c.push.ensures ∙ ap (λ (ds : List ℕ). content c.args.self.now ++ ds) (sym (decimal_digit c.args.n c.if-n-lt10.true))
 
-pub push-number-requires : goal.push-number-requires
-push-number-requires t c = (omega arith, room_front _ (front c.args.n) (last c.args.n) (room_split c.args.self.now c.args.n c.if-n-lt10.false (omega arith) c.requires))
+pub push_number-requires : goal.push_number-requires
+push_number-requires t c = (omega arith, room_front _ (front c.args.n) (last c.args.n) (room_split c.args.self.now c.args.n c.if-n-lt10.false (omega arith) c.requires))
 
 pub push-requires-2 : goal.push-requires-2
 push-requires-2 t c =
-    room_rest c.args.self.now c.push-number.new.self (front c.args.n) (last c.args.n) (room_split c.args.self.now c.args.n c.if-n-lt10.false (omega arith) c.requires) c.push-number.ensures
+    room_rest c.args.self.now c.push_number.new.self (front c.args.n) (last c.args.n) (room_split c.args.self.now c.args.n c.if-n-lt10.false (omega arith) c.requires) c.push_number.ensures
 
 pub returns : goal.returns
 returns t c =
-    written_both (content c.args.self.now) _ _ (front c.args.n) (last c.args.n) c.push-number.ensures c.push-2.ensures
+    written_both (content c.args.self.now) _ _ (front c.args.n) (last c.args.n) c.push_number.ensures c.push-2.ensures
     ∙ ap (λ (ds : List ℕ). content c.args.self.now ++ ds) (sym (split c.args.n c.if-n-lt10.false (omega arith)))

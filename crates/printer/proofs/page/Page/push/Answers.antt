@@ -5,19 +5,19 @@ use Rattle.printer.specs.Pages.{content}
 use Rattle.printer.proofs.Pages.{content_length}
 use Rattle.printer.proofs.page.Page.push.Goals as goal
 
-pub slice-bounds-copy-from-slice-end : goal.slice-bounds-copy-from-slice-end
-slice-bounds-copy-from-slice-end c = omega (arith, content_length c.args.self.now, c.requires)
+pub slice_bounds-copy_from_slice-end : goal.slice_bounds-copy_from_slice-end
+slice_bounds-copy_from_slice-end c = omega (arith, content_length c.args.self.now, c.requires)
 
-pub invariant-of-self : goal.invariant-of-self
-invariant-of-self c =
+pub invariant_of-self : goal.invariant_of-self
+invariant_of-self c =
     let p = c.args.self.now in
     let fits : p.len + length c.args.more.now ≤ 9216 = omega (arith, content_length p, c.requires) in
-    let same = c.copy-from-slice.ensures.after in
+    let same = c.copy_from_slice.ensures.after in
     (search (rules, places), (fits, tt))
 
 pub returns : goal.returns
 unfolding content
 returns c =
     let p = c.args.self.now in
-    take-put_mid _ _ p.bytes c.copy-from-slice.new.self _ (omega (arith, ap length c.copy-from-slice.ensures.after)) (omega (arith, p.long, p.within))
-    ∙ ap (λ (w : List ℕ). take p.len p.bytes ++ w) c.copy-from-slice.ensures.after
+    take-put_mid _ _ p.bytes c.copy_from_slice.new.self _ (omega (arith, ap length c.copy_from_slice.ensures.after)) (omega (arith, p.long, p.within))
+    ∙ ap (λ (w : List ℕ). take p.len p.bytes ++ w) c.copy_from_slice.ensures.after

@@ -7,8 +7,8 @@ use Rattle.printer.proofs.Joined.{lines_cut, lines_more}
 use Rattle.printer.proofs.Pages.{room_as, room_front, room_rest, written_as, written_both}
 use Rattle.printer.proofs.page.Page.push_entries.Goals as goal
 
-pub push-entry-requires : goal.push-entry-requires
-push-entry-requires c =
+pub push_entry-requires : goal.push_entry-requires
+push_entry-requires c =
     let es = c.args.entries.now in
     let i = c.loop-i.i in
     let own = line (entry_words i (entry_at es i)) in
@@ -21,7 +21,7 @@ loop-i-preserved c =
     let es = c.args.entries.now in
     let i = c.loop-i.i in
     written_as (content c.args.self.now) (lines_more es i c.loop-i-test.true)
-    (written_both (content c.args.self.now) (content c.loop-i.self) (content c.push-entry.new.self) (node_lines 0 (take i es)) (line (entry_words i (entry_at es i))) c.loop-i.invariant c.push-entry.ensures)
+    (written_both (content c.args.self.now) (content c.loop-i.self) (content c.push_entry.new.self) (node_lines 0 (take i es)) (line (entry_words i (entry_at es i))) c.loop-i.invariant c.push_entry.ensures)
 
 pub returns : goal.returns
 returns c =

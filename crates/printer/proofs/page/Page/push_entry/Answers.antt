@@ -31,35 +31,35 @@ after_node : (p q r : Page) (n : ℕ) (e : Entry) (x : Exits) → x ≡ exits_of
     → Room r (exits x e ++ 10 ∷ [])
 after_node p q r n e x is room label named = room_rest q r (node e) (exits x e ++ 10 ∷ []) (after_label p q n e x is room label) named
 
-pub push-label-requires : goal.push-label-requires
-push-label-requires c =
+pub push_label-requires : goal.push_label-requires
+push_label-requires c =
     room_front c.args.self.now (label_word c.args.number) (rest (exits_of c.args.entry.node) c.args.entry) (room_as c.args.self.now (whole c.args.number c.args.entry _ refl) c.requires)
 
-pub push-node-requires : goal.push-node-requires
-push-node-requires c =
-    room_front c.push-label.new.self (node c.args.entry) (exits (exits_of c.args.entry.node) c.args.entry ++ 10 ∷ [])
-    (after_label c.args.self.now c.push-label.new.self c.args.number c.args.entry (exits_of c.args.entry.node) refl c.requires c.push-label.ensures)
+pub push_node-requires : goal.push_node-requires
+push_node-requires c =
+    room_front c.push_label.new.self (node c.args.entry) (exits (exits_of c.args.entry.node) c.args.entry ++ 10 ∷ [])
+    (after_label c.args.self.now c.push_label.new.self c.args.number c.args.entry (exits_of c.args.entry.node) refl c.requires c.push_label.ensures)
 
-pub push-exits-requires : goal.push-exits-requires
-push-exits-requires c =
-    room_front c.push-node.new.self (exits c.exits.result c.args.entry) (10 ∷ [])
-    (after_node c.args.self.now c.push-label.new.self c.push-node.new.self c.args.number c.args.entry c.exits.result c.exits.ensures c.requires c.push-label.ensures c.push-node.ensures)
+pub push_exits-requires : goal.push_exits-requires
+push_exits-requires c =
+    room_front c.push_node.new.self (exits c.exits.result c.args.entry) (10 ∷ [])
+    (after_node c.args.self.now c.push_label.new.self c.push_node.new.self c.args.number c.args.entry c.exits.result c.exits.ensures c.requires c.push_label.ensures c.push_node.ensures)
 
 pub push-requires : goal.push-requires
 push-requires c =
-    room_rest c.push-node.new.self c.push-exits.new.self (exits c.exits.result c.args.entry) (10 ∷ [])
-    (after_node c.args.self.now c.push-label.new.self c.push-node.new.self c.args.number c.args.entry c.exits.result c.exits.ensures c.requires c.push-label.ensures c.push-node.ensures)
-    c.push-exits.ensures
+    room_rest c.push_node.new.self c.push_exits.new.self (exits c.exits.result c.args.entry) (10 ∷ [])
+    (after_node c.args.self.now c.push_label.new.self c.push_node.new.self c.args.number c.args.entry c.exits.result c.exits.ensures c.requires c.push_label.ensures c.push_node.ensures)
+    c.push_exits.ensures
 
 pub returns : goal.returns
 returns c =
     let before = content c.args.self.now in
-    let labelled = content c.push-label.new.self in
-    let named = content c.push-node.new.self in
-    let led = content c.push-exits.new.self in
+    let labelled = content c.push_label.new.self in
+    let named = content c.push_node.new.self in
+    let led = content c.push_exits.new.self in
     let ended = content c.push.new.self in
     let way = exits c.exits.result c.args.entry in
     written_as before (whole c.args.number c.args.entry c.exits.result c.exits.ensures)
-    (written_both before labelled ended (label_word c.args.number) (rest c.exits.result c.args.entry) c.push-label.ensures
-    (written_both labelled named ended (node c.args.entry) (way ++ 10 ∷ []) c.push-node.ensures
-    (written_both named led ended way (10 ∷ []) c.push-exits.ensures c.push.ensures)))
+    (written_both before labelled ended (label_word c.args.number) (rest c.exits.result c.args.entry) c.push_label.ensures
+    (written_both labelled named ended (node c.args.entry) (way ++ 10 ∷ []) c.push_node.ensures
+    (written_both named led ended way (10 ∷ []) c.push_exits.ensures c.push.ensures)))

@@ -14,8 +14,8 @@ whole p es count first a b c =
     ∙ ap (λ n. node_lines 0 es ++ line (trailer_words n p.first)) (sym b)
     ∙ ap (λ n. node_lines 0 es ++ line (trailer_words count n)) (sym c)
 
-pub push-entries-requires : goal.push-entries-requires
-push-entries-requires c =
+pub push_entries-requires : goal.push_entries-requires
+push_entries-requires c =
     let p = program_of c.args.program.now in
     let es = c.entries.result.now in
     record {
@@ -24,16 +24,16 @@ push-entries-requires c =
           (room_as c.args.self.now (whole p es (length p.entries) p.first c.entries.ensures.value refl refl) c.requires);
     }
 
-pub push-trailer-requires : goal.push-trailer-requires
-push-trailer-requires c =
+pub push_trailer-requires : goal.push_trailer-requires
+push_trailer-requires c =
     let es = c.entries.result.now in
-    room_rest c.args.self.now c.push-entries.new.self (node_lines 0 es) (line (trailer_words c.count.result c.first.result))
+    room_rest c.args.self.now c.push_entries.new.self (node_lines 0 es) (line (trailer_words c.count.result c.first.result))
     (room_as c.args.self.now (whole (program_of c.args.program.now) es c.count.result c.first.result c.entries.ensures.value c.count.ensures c.first.ensures) c.requires)
-    c.push-entries.ensures
+    c.push_entries.ensures
 
 pub returns : goal.returns
 returns c =
     let es = c.entries.result.now in
     written_as (content c.args.self.now) (whole (program_of c.args.program.now) es c.count.result c.first.result c.entries.ensures.value c.count.ensures c.first.ensures)
-    (written_both (content c.args.self.now) (content c.push-entries.new.self) (content c.push-trailer.new.self) (node_lines 0 es) (line (trailer_words c.count.result c.first.result))
-    c.push-entries.ensures c.push-trailer.ensures)
+    (written_both (content c.args.self.now) (content c.push_entries.new.self) (content c.push_trailer.new.self) (node_lines 0 es) (line (trailer_words c.count.result c.first.result))
+    c.push_entries.ensures c.push_trailer.ensures)

@@ -31,28 +31,28 @@ after_from : (p q r s : Page) (m n : ℕ) → Room p (line (trailer_words m n)) 
     → Room s (behind_from n)
 after_from p q r s m n room end count from = room_rest r s (word (codes "from")) (behind_from n) (after_count p q r m n room end count) from
 
-pub push-numbered-requires : goal.push-numbered-requires
-push-numbered-requires c =
+pub push_numbered-requires : goal.push_numbered-requires
+push_numbered-requires c =
     room_front c.push.new.self (word (decimal c.args.count)) (behind_count c.args.first)
     (after_end c.args.self.now c.push.new.self c.args.count c.args.first c.requires c.push.ensures)
 
-pub push-word-requires : goal.push-word-requires
-push-word-requires c =
-    room_front c.push-numbered.new.self (word (codes "from")) (behind_from c.args.first)
-    (after_count c.args.self.now c.push.new.self c.push-numbered.new.self c.args.count c.args.first c.requires c.push.ensures c.push-numbered.ensures)
+pub push_word-requires : goal.push_word-requires
+push_word-requires c =
+    room_front c.push_numbered.new.self (word (codes "from")) (behind_from c.args.first)
+    (after_count c.args.self.now c.push.new.self c.push_numbered.new.self c.args.count c.args.first c.requires c.push.ensures c.push_numbered.ensures)
 
-pub push-numbered-requires-2 : goal.push-numbered-requires-2
-push-numbered-requires-2 c =
-    room_front c.push-word.new.self (word (decimal c.args.first)) (10 ∷ [])
-    (after_from c.args.self.now c.push.new.self c.push-numbered.new.self c.push-word.new.self c.args.count c.args.first c.requires c.push.ensures c.push-numbered.ensures
-    c.push-word.ensures)
+pub push_numbered-requires-2 : goal.push_numbered-requires-2
+push_numbered-requires-2 c =
+    room_front c.push_word.new.self (word (decimal c.args.first)) (10 ∷ [])
+    (after_from c.args.self.now c.push.new.self c.push_numbered.new.self c.push_word.new.self c.args.count c.args.first c.requires c.push.ensures c.push_numbered.ensures
+    c.push_word.ensures)
 
 pub push-requires-2 : goal.push-requires-2
 push-requires-2 c =
-    room_rest c.push-word.new.self c.push-numbered-2.new.self (word (decimal c.args.first)) (10 ∷ [])
-    (after_from c.args.self.now c.push.new.self c.push-numbered.new.self c.push-word.new.self c.args.count c.args.first c.requires c.push.ensures c.push-numbered.ensures
-    c.push-word.ensures)
-    c.push-numbered-2.ensures
+    room_rest c.push_word.new.self c.push_numbered-2.new.self (word (decimal c.args.first)) (10 ∷ [])
+    (after_from c.args.self.now c.push.new.self c.push_numbered.new.self c.push_word.new.self c.args.count c.args.first c.requires c.push.ensures c.push_numbered.ensures
+    c.push_word.ensures)
+    c.push_numbered-2.ensures
 
 pub returns : goal.returns
 returns c =
@@ -60,6 +60,6 @@ returns c =
     let ended = content c.push-2.new.self in
     written_as before (whole c.args.count c.args.first)
     (written_both before (content c.push.new.self) ended (codes "end") (behind_end c.args.count c.args.first) c.push.ensures
-    (written_both (content c.push.new.self) (content c.push-numbered.new.self) ended (word (decimal c.args.count)) (behind_count c.args.first) c.push-numbered.ensures
-    (written_both (content c.push-numbered.new.self) (content c.push-word.new.self) ended (word (codes "from")) (behind_from c.args.first) c.push-word.ensures
-    (written_both (content c.push-word.new.self) (content c.push-numbered-2.new.self) ended (word (decimal c.args.first)) (10 ∷ []) c.push-numbered-2.ensures c.push-2.ensures))))
+    (written_both (content c.push.new.self) (content c.push_numbered.new.self) ended (word (decimal c.args.count)) (behind_count c.args.first) c.push_numbered.ensures
+    (written_both (content c.push_numbered.new.self) (content c.push_word.new.self) ended (word (codes "from")) (behind_from c.args.first) c.push_word.ensures
+    (written_both (content c.push_word.new.self) (content c.push_numbered-2.new.self) ended (word (decimal c.args.first)) (10 ∷ []) c.push_numbered-2.ensures c.push-2.ensures))))
