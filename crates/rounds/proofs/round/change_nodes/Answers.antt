@@ -12,8 +12,8 @@ pub loop-at-init : goal.loop-at-init
 loop-at-init g c =
     rounding_starts (g.P.Facts.facts c.args.pile.now) (g.P.Analysis.moves c.args.pile.now) (program_of c.args.program.now) c.args.facts.now c.args.changes.now
 
-pub loop-at-preserved-in-default : goal.loop-at-preserved-in-default
-loop-at-preserved-in-default g c =
+pub loop-at-preserved-in_default : goal.loop-at-preserved-in_default
+loop-at-preserved-in_default g c =
     let v = g.P.Facts.facts c.args.pile.now in
     let m = g.P.Analysis.moves c.args.pile.now in
     let p = program_of c.args.program.now in
@@ -21,7 +21,7 @@ loop-at-preserved-in-default g c =
     let below : c.loop-at.at < length p.entries = omega (arith, c.loop-at-test.true, c.count-at-end.ensures) in
     let none : offered v m p c.args.facts.now c.loop-at.at ≡ None =
     offered_is v m p q c.args.facts.now c.loop-at.at c.index-facts-at.result c.entries.result.now None (omega (arith, c.requires.each)) c.index-facts-at.is
-    c.entries.ensures.value (c.loop-at.invariant.old c.loop-at.at (omega arith) below) c.in-default.ensures.exact in
+    c.entries.ensures.value (c.loop-at.invariant.old c.loop-at.at (omega arith) below) c.in_default.ensures.exact in
     rounding_none v m p c.args.facts.now c.args.changes.now c.loop-at.at q c.loop-at.changes c.loop-at.made c.loop-at.short c.loop-at.invariant below none
 
 -- what holds once a change was asked for
@@ -48,12 +48,12 @@ turn g c =
     let four : length change.row ≡ 4 = search rules in
     record { below = below; offers = offers; asked = asked; size = asked_size q c.loop-at.at change asked four (length q.entries) }
 
-pub loop-at-preserved-then-count-change-gt-NODE-LIMIT : goal.loop-at-preserved-then-count-change-gt-NODE-LIMIT
-loop-at-preserved-then-count-change-gt-NODE-LIMIT g c =
-    let t = turn g (goal.at.loop-at-preserved-then-count-change-gt-NODE-LIMIT g c).In-Some in
+pub loop-at-preserved-then-count-change-gt-NODE_LIMIT : goal.loop-at-preserved-then-count-change-gt-NODE_LIMIT
+loop-at-preserved-then-count-change-gt-NODE_LIMIT g c =
+    let t = turn g (goal.at.loop-at-preserved-then-count-change-gt-NODE_LIMIT g c).In-Some in
     rounding_short (g.P.Facts.facts c.args.pile.now) (g.P.Analysis.moves c.args.pile.now) (program_of c.args.program.now) c.args.facts.now c.args.changes.now
     c.loop-at.at (program_of c.loop-at.program) c.loop-at.changes c.loop-at.made c.loop-at.short c.loop-at.invariant t.below
-    (replacement_of c.in-Some.change) t.offers (omega (arith, t.size, c.count.ensures, c.if-count-change-gt-NODE-LIMIT.true))
+    (replacement_of c.in-Some.change) t.offers (omega (arith, t.size, c.count.ensures, c.if-count-change-gt-NODE_LIMIT.true))
 
 pub make-requires : goal.make-requires
 make-requires g c =
@@ -62,7 +62,7 @@ make-requires g c =
       there = let s = c.loop-at.invariant.size in let b = t.below in let h = t.asked.here in omega arith;
       form = t.asked.form;
       len = t.asked.len;
-      room = omega (arith, t.size, c.count.ensures, c.if-count-change-gt-NODE-LIMIT.false);
+      room = omega (arith, t.size, c.count.ensures, c.if-count-change-gt-NODE_LIMIT.false);
     }
 
 pub loop-at-preserved : goal.loop-at-preserved
@@ -70,7 +70,7 @@ loop-at-preserved g c =
     let t = turn g (goal.at.loop-at-preserved g c).In-Some in
     rounding_made (g.P.Facts.facts c.args.pile.now) (g.P.Analysis.moves c.args.pile.now) (program_of c.args.program.now) c.args.facts.now c.args.changes.now
     c.loop-at.at (program_of c.loop-at.program) c.loop-at.changes c.loop-at.made c.loop-at.short c.loop-at.invariant t.below
-    c.in-Some.change t.offers (omega (arith, t.size, c.count.ensures, c.if-count-change-gt-NODE-LIMIT.false)) c.in-Some.ensures.form
+    c.in-Some.change t.offers (omega (arith, t.size, c.count.ensures, c.if-count-change-gt-NODE_LIMIT.false)) c.in-Some.ensures.form
     (let f = c.loop-at.invariant.few in let b = t.below in let l = c.loop-at.invariant.long in omega (arith, c.requires.room)) (program_of c.make.new.program) c.make.ensures
 
 pub returns : goal.returns

@@ -54,9 +54,9 @@ settled g c =
           (held_program c.args.program.now) c.count-nodes.result c.in-Ok.visits c.settle.new.table count was;
     }
 
-pub change-nodes-made-requires : goal.change-nodes-made-requires
-change-nodes-made-requires g c =
-    let s = settled g (goal.at.change-nodes-made-requires g c).In-Ok in
+pub change_nodes-made-requires : goal.change_nodes-made-requires
+change_nodes-made-requires g c =
+    let s = settled g (goal.at.change_nodes-made-requires g c).In-Ok in
     let long = settled_length _ _ (g.met.P.Facts.shown c.args.pile.now) (g.met.P.Analysis.sound c.args.pile.now) (program_of c.args.program.now) (held_program c.args.program.now) in
     record { each = ap length s.front ∙ long; room = s.room }
 
@@ -69,15 +69,15 @@ returns g c =
     let sound = g.met.P.Analysis.sound c.args.pile.now in
     let p = program_of c.args.program.now in
     let ok = held_program c.args.program.now in
-    let made = c.change-nodes-made.result.0 in
-    let short = c.change-nodes-made.result.1 in
-    let q = program_of c.change-nodes-made.new.program in
+    let made = c.change_nodes-made.result.0 in
+    let short = c.change_nodes-made.result.1 in
+    let q = program_of c.change_nodes-made.new.program in
     let facts = take (c.count-nodes.result - 0) c.settle.new.table in
     record {
-      exact = rounds v m p c.args.table.now c.args.changes.now shown sound ok c.in-Ok.visits made short facts c.settle.new.table q c.change-nodes-made.new.changes
-          s.was s.room s.front c.change-nodes-made.ensures;
-      equivalent = rounds_equivalent v m p c.args.table.now c.args.changes.now shown sound ok c.in-Ok.visits made short facts c.settle.new.table q c.change-nodes-made.new.changes
-          s.was s.room s.front c.change-nodes-made.ensures;
+      exact = rounds v m p c.args.table.now c.args.changes.now shown sound ok c.in-Ok.visits made short facts c.settle.new.table q c.change_nodes-made.new.changes
+          s.was s.room s.front c.change_nodes-made.ensures;
+      equivalent = rounds_equivalent v m p c.args.table.now c.args.changes.now shown sound ok c.in-Ok.visits made short facts c.settle.new.table q c.change_nodes-made.new.changes
+          s.was s.room s.front c.change_nodes-made.ensures;
       settles = c.in-Ok.ensures.settles;
       judges = judges v m p (settled_facts v m p);
     }

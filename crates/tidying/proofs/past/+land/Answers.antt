@@ -27,10 +27,10 @@ returns-in-Walking t c =
       left = λ k at. at;
     }
 
-pub returns-then-not-is-skip : goal.returns-then-not-is-skip
-returns-then-not-is-skip t c =
+pub returns-then-not-is_skip : goal.returns-then-not-is_skip
+returns-then-not-is_skip t c =
     let p = prog c.args.entries.now c.args.first in
-    let solid = sym c.if-not-is-skip.ensures in
+    let solid = sym c.if-not-is_skip.ensures in
     record {
       value = sym (solid_here p c.args.n solid c.requires.there);
       right = here_right p c.requires.whole c.args.n c.requires.there c.args.ways.now c.requires.right solid;
@@ -40,7 +40,7 @@ returns-then-not-is-skip t c =
 pub land-found-requires : goal.land-found-requires
 land-found-requires t c =
     let p = prog c.args.entries.now c.args.first in
-    let skips = sym c.if-not-is-skip.ensures in
+    let skips = sym c.if-not-is_skip.ensures in
     let inside : c.args.n < length c.args.ways.now = let e = c.requires.right.each in let h = c.requires.there in omega arith in
     let less = unknown_less c.args.ways.now c.args.n inside c.in-Unknown.is in (
       omega arith,
@@ -53,9 +53,9 @@ land-found-requires t c =
 pub returns : goal.returns
 returns t c =
     let p = prog c.args.entries.now c.args.first in
-    let skips = sym c.if-not-is-skip.ensures in
+    let skips = sym c.if-not-is_skip.ensures in
     let found = c.land-found.ensures in
-    let way = c.found-way.ensures in
+    let way = c.found_way.ensures in
     record {
       value = found_is p c.requires.whole c.args.n c.requires.there c.args.ways.now c.requires.right skips c.land-found.new.ways found.right found.left c.land-found.result found.value;
       right = subst (λ (w : Way). Right p c.args.n (set c.land-found.new.ways c.args.n w)) (sym way)

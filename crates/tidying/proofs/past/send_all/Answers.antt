@@ -20,8 +20,8 @@ loop-n-preserved c =
     let p = prog c.args.entries.now c.args.first in
     let n = c.loop-n.n in
     let rests = rests_left c.loop-n.ways c.land-found.new.ways c.loop-n.invariant.1 c.land-found.ensures.left in
-    let value = c.unwrap-or.result in
-    let is : value ≡ past p n = c.unwrap-or.ensures ∙ ap (λ o. unwrap_or o n) c.land-found.ensures.value in (
+    let value = c.unwrap_or.result in
+    let is : value ≡ past p n = c.unwrap_or.ensures ∙ ap (λ o. unwrap_or o n) c.land-found.ensures.value in (
       (λ m. rests_right p n m c.land-found.new.ways rests c.land-found.ensures.right),
       rests,
       below_more (λ k. get_or (set c.loop-n.sent n value) k 0 ≡ past p k) n

@@ -30,30 +30,30 @@ follow-requires c =
     let node = c.in-Some.node in
     let inv = c.loop-node.invariant in
     let long = inv.spreading.long in
-    let there = node_there p c.requires.whole c.loop-node.marks c.loop-node.waiting inv node c.take-lowest.new.self c.in-Some.ensures.value c.in-Some.ensures.after in
+    let there = node_there p c.requires.whole c.loop-node.marks c.loop-node.waiting inv node c.take_lowest.new.self c.in-Some.ensures.value c.in-Some.ensures.after in
     record {
       targets = subst (λ (n : ℕ). TargetsBelow n (entry_of p node)) (sym long)
           (λ exit has. leads_has (length p.entries) (exits_of (entry_of p node).node) (entry_of p node).targets exit
           (sound_parts (length p.entries) (entry_of p node) (c.requires.whole.sound node (omega arith))).leads has);
-      within = node_within p c.requires.whole c.loop-node.marks c.loop-node.waiting inv node c.take-lowest.new.self c.in-Some.ensures.value c.in-Some.ensures.after;
+      within = node_within p c.requires.whole c.loop-node.marks c.loop-node.waiting inv node c.take_lowest.new.self c.in-Some.ensures.value c.in-Some.ensures.after;
     }
 
 pub bounds-entries-node : goal.bounds-entries-node
 bounds-entries-node c =
     let long = c.loop-node.invariant.spreading.long in
-    let there = node_there (prog c.args.entries.now c.args.first) c.requires.whole c.loop-node.marks c.loop-node.waiting c.loop-node.invariant c.in-Some.node c.take-lowest.new.self
+    let there = node_there (prog c.args.entries.now c.args.first) c.requires.whole c.loop-node.marks c.loop-node.waiting c.loop-node.invariant c.in-Some.node c.take_lowest.new.self
     c.in-Some.ensures.value c.in-Some.ensures.after in
     omega arith
 
 pub loop-node-smaller : goal.loop-node-smaller
 loop-node-smaller c =
-    going_less (prog c.args.entries.now c.args.first) c.requires.whole c.loop-node.marks c.loop-node.waiting c.loop-node.invariant c.in-Some.node c.take-lowest.new.self
+    going_less (prog c.args.entries.now c.args.first) c.requires.whole c.loop-node.marks c.loop-node.waiting c.loop-node.invariant c.in-Some.node c.take_lowest.new.self
     c.in-Some.ensures.value c.in-Some.ensures.after c.follow.new.marks c.follow.new.waiting c.follow.ensures.exact
 
 pub loop-node-preserved : goal.loop-node-preserved
 loop-node-preserved c =
-    going_follows (prog c.args.entries.now c.args.first) c.requires.whole c.loop-node.marks c.loop-node.waiting c.loop-node.invariant c.in-Some.node c.take-lowest.new.self
+    going_follows (prog c.args.entries.now c.args.first) c.requires.whole c.loop-node.marks c.loop-node.waiting c.loop-node.invariant c.in-Some.node c.take_lowest.new.self
     c.in-Some.ensures.value c.in-Some.ensures.after c.follow.new.marks c.follow.new.waiting c.follow.ensures.exact c.follow.ensures.within
 
 pub returns : goal.returns
-returns c = none_waits (prog c.args.entries.now c.args.first) c.requires.whole c.loop-node.marks c.loop-node.waiting c.loop-node.invariant c.in-default.ensures.value
+returns c = none_waits (prog c.args.entries.now c.args.first) c.requires.whole c.loop-node.marks c.loop-node.waiting c.loop-node.invariant c.in_default.ensures.value

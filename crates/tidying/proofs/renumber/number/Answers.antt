@@ -5,8 +5,8 @@ use Rattle.tidying.proofs.Numbering.{rank_le, rank_more}
 use Rattle.tidying.proofs.renumber.number.Goals as goal
 use Rattle.tidying.proofs.renumber.number.Goals.{then-marks-i, else-marks-i}
 
-pub overflow-add-next : goal.overflow-add-next
-overflow-add-next c = omega (arith, c.loop-i.invariant.0, rank_le c.args.marks.now c.loop-i.i, c.requires.few)
+pub overflow_add-next : goal.overflow_add-next
+overflow_add-next c = omega (arith, c.loop-i.invariant.0, rank_le c.args.marks.now c.loop-i.i, c.requires.few)
 
 pub loop-i-init : goal.loop-i-init
 loop-i-init c = (omega (arith, rank_le c.args.marks.now 0), λ n h. absurd (omega arith))

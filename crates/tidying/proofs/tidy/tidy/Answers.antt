@@ -10,7 +10,7 @@ use Rattle.tidying.proofs.Fronts.{front_still}
 use Rattle.tidying.proofs.PastLaws.{sends_past}
 use Rattle.tidying.proofs.TidyCall.{table_room, table_front, tidy_equivalent, tidy_tidies, kept_is, checked_is}
 use Rattle.tidying.proofs.tidy.tidy.Goals as goal
-use Rattle.tidying.proofs.tidy.tidy.Goals.{in-Some, in-default, After-first}
+use Rattle.tidying.proofs.tidy.tidy.Goals.{in-Some, in_default, After-first}
 
 same_some : (q r : Prog) → ◌≡◌ {A = Option Prog} (Some q) (Some r) → q ≡ r
 same_some q r e = cc
@@ -34,19 +34,19 @@ part_long c =
     let zero-less : c.count-count.result - 0 ≡ c.count-count.result = omega arith in
     ap (λ k. length (take k c.table-table.result.entries)) zero-less ∙ length-take-le c.count-count.result c.table-table.result.entries (room c)
 
-pub slice-bounds-tidy-entries-end : goal.slice-bounds-tidy-entries-end
-slice-bounds-tidy-entries-end c =
+pub slice_bounds-tidy_entries-end : goal.slice_bounds-tidy_entries-end
+slice_bounds-tidy_entries-end c =
     let p = program_of c.args.program.now in table_room p c.table-table.result.entries c.count-count.result p.first c.table-table.ensures c.count-count.ensures refl
 
-pub slice-bounds-marks-end : goal.slice-bounds-marks-end
-slice-bounds-marks-end c = few (goal.at.slice-bounds-marks-end c).After-first
+pub slice_bounds-marks-end : goal.slice_bounds-marks-end
+slice_bounds-marks-end c = few (goal.at.slice_bounds-marks-end c).After-first
 
-pub slice-bounds-numbers-end : goal.slice-bounds-numbers-end
-slice-bounds-numbers-end c = few (goal.at.slice-bounds-numbers-end c).After-first
+pub slice_bounds-numbers-end : goal.slice_bounds-numbers-end
+slice_bounds-numbers-end c = few (goal.at.slice_bounds-numbers-end c).After-first
 
-pub tidy-entries-kept-requires : goal.tidy-entries-kept-requires
-tidy-entries-kept-requires c =
-    let here = (goal.at.tidy-entries-kept-requires c).After-first in
+pub tidy_entries-kept-requires : goal.tidy_entries-kept-requires
+tidy_entries-kept-requires c =
+    let here = (goal.at.tidy_entries-kept-requires c).After-first in
     let n = c.count-count.result in
     let long = part_long here in
     record {
@@ -60,24 +60,24 @@ returns c =
     let p = program_of c.args.program.now in
     let ok = held_program c.args.program.now in
     let here = (goal.at.returns c).After-first in
-    let kept = c.tidy-entries-kept.result.0 in
-    let e = c.tidy-entries-kept.ensures in
-    let part = c.tidy-entries-kept.new.entries in
-    let long : length part ≡ c.count-count.result = c.tidy-entries-kept.auto.entries ∙ part_long here in
+    let kept = c.tidy_entries-kept.result.0 in
+    let e = c.tidy_entries-kept.ensures in
+    let part = c.tidy_entries-kept.new.entries in
+    let long : length part ≡ c.count-count.result = c.tidy_entries-kept.auto.entries ∙ part_long here in
     let below : kept ≤ length part = let b = subst (λ k. kept ≤ k) (part_long here) e.count in omega arith in
     let rest = post_of 0 (c.count-count.result - 0) c.table-table.result.entries in
     let is : take kept (part ++ rest) ≡ (tidied p).entries = take-append-le kept part rest below ∙ e.entries ∙ ap (λ q. (tidied q).entries) (front here) in
     let inside : kept ≤ length (part ++ rest) = let l = length-append part rest in omega arith in
-    let starts : c.tidy-entries-kept.result.1 ≡ (tidied p).first = e.first ∙ ap (λ q. (tidied q).first) (front here) in
-    let made = checked_is p ok (part ++ rest) kept c.tidy-entries-kept.result.1 is inside starts in
-    let exact : program_of c.match-from-table.program ≡ tidied p =
-    elim c.match-from-table.branch [
+    let starts : c.tidy_entries-kept.result.1 ≡ (tidied p).first = e.first ∙ ap (λ q. (tidied q).first) (front here) in
+    let made = checked_is p ok (part ++ rest) kept c.tidy_entries-kept.result.1 is inside starts in
+    let exact : program_of c.match-from_table.program ≡ tidied p =
+    elim c.match-from_table.branch [
       | in-Some w ↦ ap program_of w.program-is ∙ same_some (program_of w.in-Some.tidied) (tidied p) (w.in-Some.ensures ∙ made)
-      | in-default w ↦ absurd (none_some (tidied p) (w.in-default.ensures ∙ made))
+      | in_default w ↦ absurd (none_some (tidied p) (w.in_default.ensures ∙ made))
     ] in
     record {
       exact = exact;
-      told = let n = kept_is p ok (part ++ rest) kept c.tidy-entries-kept.result.1 is inside starts in let m = c.count-count.ensures in ap (λ k. k - kept) m ∙ ap (λ k. length p.entries - k) n;
+      told = let n = kept_is p ok (part ++ rest) kept c.tidy_entries-kept.result.1 is inside starts in let m = c.count-count.ensures in ap (λ k. k - kept) m ∙ ap (λ k. length p.entries - k) n;
       tidies = subst (Tidies p) (sym exact) (tidy_tidies p ok);
       past = sends_past p ok;
       equivalent = subst (Equivalent p) (sym exact) (tidy_equivalent p ok);

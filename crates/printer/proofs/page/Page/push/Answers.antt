@@ -13,7 +13,7 @@ invariant_of-self c =
     let p = c.args.self.now in
     let fits : p.len + length c.args.more.now ≤ 9216 = omega (arith, content_length p, c.requires) in
     let same = c.copy_from_slice.ensures.after in
-    (search (rules, places), (fits, tt))
+    record { long = search (rules, places); within = fits }
 
 pub returns : goal.returns
 unfolding content
