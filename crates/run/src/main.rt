@@ -7,8 +7,12 @@ mod report;
 mod request;
 mod spelling;
 
-use crate::perform::{Failure, perform};
+use crate::perform::perform;
+use std::process::ExitCode;
 
-fn main(rt: HostRuntime) -> Result<(), Failure> {
-    perform(&rt)
+fn main(rt: HostRuntime) -> ExitCode {
+    match perform(&rt) {
+        Ok(()) => ExitCode::SUCCESS,
+        Err(_) => ExitCode::FAILURE,
+    }
 }

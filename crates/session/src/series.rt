@@ -9,7 +9,7 @@ pub trait Series {
 
 /// Does nothing: its contract is the promise over every series of calls.
 pub fn every_series<S: Series>(series: &S)
-    ensures { Promise (calls series.now) }
+    ensures { Promise (S.calls series.now) }
 {
     let _ = series;
 }

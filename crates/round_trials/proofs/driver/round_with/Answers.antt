@@ -8,10 +8,10 @@ use Rattle.round_trials.proofs.driver.round_with.Goals as goal
 
 pub returns : goal.returns
 returns g c =
-    let room : node_limit ≤ length c.deref-mut.result.now = omega (arith, c.in-ok-table.ensures, c.deref-mut.ensures.len) in
+    let room : node_limit ≤ length c.deref_mut.result.now = omega (arith, c.in_ok-table.ensures, c.deref_mut.ensures.len) in
     record {
       told = round_told (g.P.Facts.facts c.args.pile.now) (g.P.Analysis.moves c.args.pile.now) (program_of c.args.program.now) (held_program c.args.program.now)
-          c.deref-mut.result.now room c.args.changes.now (numbered c.round.result) (program_of c.round.new.program) c.round.new.table c.round.new.changes
+          c.deref_mut.result.now room c.args.changes.now (numbered c.round.result) (program_of c.round.new.program) c.round.new.table c.round.new.changes
           c.round.ensures.exact;
       equivalent = c.round.ensures.equivalent;
     }

@@ -5,6 +5,6 @@ use Rattle.run.proofs.spelling.parse_word.Goals as goal
 
 pub returns : goal.returns
 returns c =
-    let plus = starts_char 43 c.args.text.now c.starts-with.result c.starts-with.ensures.cases (lit< tt) (lit< tt) in
-    let unsigned : get_or c.args.text.now 0 0 ≡ 43 → ⊥ = λ e. true≢false (sym (plus.1 e) ∙ c.if-starts-with.false) in
+    let plus = starts_char 43 c.args.text.now c.starts_with.result c.starts_with.ensures.cases (lit< tt) (lit< tt) in
+    let unsigned : get_or c.args.text.now 0 0 ≡ 43 → ⊥ = λ e. true≢false (sym (plus.1 e) ∙ c.if-starts_with.false) in
     rw c.ok.ensures.value (word_read c.args.text.now c.parse.result c.parse.ensures.value.0 unsigned)
