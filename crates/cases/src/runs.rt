@@ -28,21 +28,18 @@ fn show_outcome(rt: &impl Print, name: &str, outcome: Outcome) -> io::Result<()>
     let steps = outcome.steps;
     let read = outcome.read;
     let written = outcome.written;
-    print!(
-        rt,
-        "{name}: {stop} after {steps} steps, read {read}, written {written}"
-    )
+    print!(rt; "{name}: {stop} after {steps} steps, read {read}, written {written}")
 }
 
 /// Shows the output buffer, and the cells that changed.
 fn show_buffers(rt: &impl Print, cells: &[u32], output: &[u32]) -> io::Result<()> {
-    print!(rt, ", output")?;
+    print!(rt; ", output")?;
     for word in output {
-        print!(rt, " {word}")?;
+        print!(rt; " {word}")?;
     }
     for (i, word) in cells.iter().enumerate() {
         if *word != CELL {
-            print!(rt, ", c{i} = {word}")?;
+            print!(rt; ", c{i} = {word}")?;
         }
     }
     println!(rt; "")
@@ -64,7 +61,7 @@ fn try_run(rt: &(impl Print + AllocGlobal), session: &mut Session, run: &Run) ->
         Ok(outcome) => show_outcome(rt, name, outcome)?,
         Err(refusal) => {
             let number = refusal.number();
-            print!(rt, "{name}: refused {number}")?;
+            print!(rt; "{name}: refused {number}")?;
         }
     }
     show_buffers(rt, cells.as_slice(), output.as_slice())
