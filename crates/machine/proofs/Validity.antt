@@ -1,5 +1,5 @@
 -- Nodes lead from valid states to valid states.
-use Rattle.std.proofs.Common.{◌≡◌, ℕ, zero, suc, ◌-◌, ◌/◌, ◌%◌, ◌^◌, ◌<◌, Bool, true, false, cond, eqb, ltb, List, [], ◌∷◌, length, get_or, set, IfSome, Some, None, Option, refl, ◌∙◌, div-le_self, arith, rules}
+use Rattle.std.proofs.Common.{◌≡◌, ℕ, zero, suc, ◌/◌, ◌%◌, ◌^◌, ◌<◌, Bool, true, false, cond, eqb, ltb, List, [], ◌∷◌, length, get_or, set, IfSome, Some, None, Option, refl, ◌∙◌, div-le_self, arith, rules}
 use native.Mathlib.Nat.{mod-le}
 use Rattle.std.proofs.lemmas.Nat.{mod_below, shr_le, and_le_l, or_lt, xor_lt}
 use Rattle.std.proofs.ByRecursion.{All-get_or, All-set, All-push}

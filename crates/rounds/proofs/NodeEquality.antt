@@ -1,5 +1,5 @@
 -- What a derived `==` tells, from the fields up: whether two values are equal; and so at nodes.
-use Rattle.std.proofs.Common.{◌≡◌, ℕ, Bool, true, false, ◌&&◌, ◌⊎◌, Decides, sym, subst, refl, ap, ◌∙◌, ap₂, inl, inr, ⊎_elim, true≢false, rules}
+use Rattle.std.proofs.Common.{◌≡◌, Bool, true, false, ◌&&◌, ◌⊎◌, Decides, sym, subst, refl, ap, ◌∙◌, ap₂, inl, inr, ⊎_elim, true≢false, rules}
 use denote.Enum.Bare.{same_true, true_same}
 use Rattle.std.proofs.lemmas.Bool.Decides.{Decides-like, Decides-eqb}
 use Rattle.machine.specs.contracts.node.Node as node

@@ -1,5 +1,5 @@
 -- Each call did what the definition of a series says of it.
-use Rattle.std.proofs.Common.{◌≡◌, ℕ, List, length, Some, None, Ok, Err, Option, Result, sym, refl, ap, ◌∙◌, subst, arith}
+use Rattle.std.proofs.Common.{◌≡◌, ℕ, List, length, Some, None, Ok, Err, Option, Result, sym, refl, ap, subst, arith}
 use Rattle.std.specs.Option.{option_map}
 use Rattle.machine.specs.Programs.{Prog}
 use Rattle.machine.specs.Reasons.{Reason}

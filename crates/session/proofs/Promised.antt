@@ -1,13 +1,11 @@
 -- The promise over every series of calls.
-use Rattle.std.proofs.Common.{◌≡◌, ℕ, zero, suc, ◌*◌, ◌≤◌, List, [], ◌∷◌, length, Some, None, Option, sym, refl, subst, arith}
-use Rattle.machine.specs.declared.program.Program.{Program}
+use Rattle.std.proofs.Common.{ℕ, zero, suc, List, [], ◌∷◌, Some, None, Option, sym, refl, subst, arith}
 use Rattle.machine.specs.Equivalent.{Equivalent}
-use Rattle.machine.specs.Programs.{Prog, IsProgram, halting, program_of}
+use Rattle.machine.specs.Programs.{Prog, IsProgram, halting}
 use Rattle.machine.specs.Reasons.{Reason}
 use Rattle.machine.specs.WellFormed.{AllSound}
 use Rattle.machine.proofs.Equivalences.{equivalent_refl, equivalent_trans}
 use Rattle.text.specs.Texts.{Place, text_fault}
-use Rattle.settling.specs.Settling.{settled, visits_told}
 use Rattle.settling.proofs.Settled.{settles}
 use Rattle.rounds.specs.Rounds.{declined, rounded}
 use Rattle.rounds.proofs.Decided.{round_equivalent}

@@ -1,5 +1,5 @@
 -- The number and the values of each refusal.
-use Rattle.std.specs.Prelude.{ℕ, List, [], ◌∷◌}
+use Rattle.std.specs.Prelude.{[], ◌∷◌}
 use Rattle.machine.specs.Reasons.{Reason, reason}
 use Rattle.machine.specs.Runs.{reason_of as runReason}
 use Rattle.rounds.specs.Rounds.{reason_of as roundReason}

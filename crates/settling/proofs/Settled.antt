@@ -12,7 +12,6 @@ use Rattle.analysis.specs.Analyses.{MovesOf, MovesShow}
 use Rattle.analysis.specs.Facts.{FactsOf, FactsShow, state}
 use Rattle.settling.specs.NodeSets.{lowest}
 use Rattle.settling.specs.Settling.{Work, fact_at, begun, opening, visited, next, settled, settled_facts, AllowsRuns, Settles}
-use Rattle.settling.specs.Worklist.{run}
 use Rattle.settling.proofs.Closing.{Closed, Closing, closing_starts, closing_visits, visited_less}
 use Rattle.settling.proofs.Lowest.{lowest_waits, lowest_rests}
 use Rattle.settling.proofs.Potential.{potential, room_set, room_replicate, waiters_raise, none_waits}

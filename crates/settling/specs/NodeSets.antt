@@ -1,5 +1,5 @@
 -- A set of node numbers as a flag for each number.
-use Rattle.std.specs.Prelude.{ℕ, zero, suc, ◌+◌, ◌/◌, ◌%◌, Bool, true, false, List, [], ◌∷◌, ◌++◌, set, Some, None, Option, ◌==◌, slice_set}
+use Rattle.std.specs.Prelude.{ℕ, zero, suc, ◌+◌, ◌/◌, ◌%◌, Bool, true, false, List, [], ◌∷◌, ◌++◌, Some, None, Option, ◌==◌, slice_set}
 use Rattle.settling.specs.declared.node_set.NodeSet.{NodeSet}
 
 -- the n lowest bits of a word, the lowest first

@@ -1,5 +1,5 @@
 -- Rows of words, one after another.
-use Rattle.std.proofs.Common.{◌≡◌, ℕ, ◌+◌, ◌-◌, List, ◌++◌, Err, Result, sym, ap, ◌∙◌, append_assoc, arith, length-append}
+use Rattle.std.proofs.Common.{◌≡◌, ℕ, ◌+◌, List, ◌++◌, Err, Result, sym, ap, ◌∙◌, append_assoc, arith, length-append}
 use Rattle.text.specs.declared.read.parts.Parts.{Parts}
 use Rattle.text.specs.Cuts.{left}
 use Rattle.text.specs.Rows.{Due, word_fault, row_fault, operand_dues, exit_dues}

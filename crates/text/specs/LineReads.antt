@@ -1,5 +1,5 @@
 -- What the readers of lines answer.
-use Rattle.std.specs.Prelude.{◌≡◌, ℕ, ◌+◌, ◌-◌, ◌<◌, ◌≤◌, true, List, [], ◌∷◌, ◌++◌, length, take, Some, None, Result, MatchResult}
+use Rattle.std.specs.Prelude.{◌≡◌, ℕ, ◌+◌, ◌<◌, ◌≤◌, true, List, [], ◌∷◌, ◌++◌, length, take, Some, None, Result, MatchResult}
 use Rattle.std.specs.List.{join_with_byte, AllByRecursion as All}
 use Rattle.machine.specs.declared.node.Entry.{Entry}
 use Rattle.text.specs.declared.read.parts.Parts.{Parts}
@@ -11,7 +11,7 @@ use Rattle.text.specs.Limits.{node_number_limit}
 use Rattle.text.specs.Print.{entry_words, trailer_words}
 use Rattle.text.specs.declared.cause.Cause.{Cause}
 use Rattle.machine.specs.Limits.{node_limit}
-use Rattle.text.specs.Rows.{fault, count, word_fault, row_fault}
+use Rattle.text.specs.Rows.{word_fault, row_fault}
 use Rattle.text.specs.Texts.{is_trailer, trailer_dues, lines_fault, refusal_told}
 
 -- r is what the trailer's words tell, or the first fault, of the word whose number is `number`

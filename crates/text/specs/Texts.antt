@@ -3,7 +3,7 @@ use Rattle.std.specs.Prelude.{ℕ, ◌+◌, ◌-◌, Bool, cond, ◌&&◌, List,
 use Rattle.std.specs.Str.{bytes_eq}
 use Rattle.text.specs.declared.refusal.TextRefusal.{TextRefusal}
 use Rattle.text.specs.Causes.{cause_number}
-use Rattle.text.specs.Cuts.{parts, left}
+use Rattle.text.specs.Cuts.{parts}
 use Rattle.text.specs.Numbers.{value_of}
 use Rattle.text.specs.Limits.{text_limit}
 use Rattle.text.specs.Rows.{Due, exactly, label, name, register, cell, value, fault, count, target, word_fault, row_fault, node_dues}
