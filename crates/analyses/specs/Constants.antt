@@ -54,7 +54,7 @@ abbrev pub is_known : Known → Operand → Bool
 is_known f (Reg r) = is_some (number_of (known_operand f (Reg r)))
 is_known f (Num v) = false
 
--- whether knownNode makes another node
+-- whether known_node makes another node
 abbrev pub alters : Known → Node → Bool
 alters f n = folds n || any_operand (is_known f) n
 

@@ -3,7 +3,7 @@ use Rattle.std.specs.Prelude.{◌≡◌, ℕ, zero, suc, ◌+◌, ◌%◌, ◌^�
 use Rattle.std.proofs.Common.{sym, ap, subst, ◌∙◌, append-nil, append_assoc, arith, length-append}
 use Rattle.std.proofs.lemmas.Nat.{or_lt, and_le_l}
 use Rattle.std.specs.Int.Bits.{or_step, or_add_and}
-use Rattle.std.specs.List.{AllByRecursion as All}
+use Rattle.std.specs.List.{AllByRecursion}
 use Rattle.std.proofs.ByRecursion.{All-append}
 use Rattle.std.proofs.lemmas.Bool.{eqb-true}
 use Rattle.std.proofs.lemmas.Bool.Decides.{nat_tests}
@@ -48,7 +48,7 @@ goes_valid n s t p ok q =
     let left : act n s ≡ leaves 0 t = node_effect n s ∙ ap (λ o. effect (leaving 0 o)) q in
     subst (λ (f : Effect). Valid (state_after f)) left (stays_valid n s p ok)
 
-all_split : {X : Type 0} (P : X → Type 0) (xs ys : List X) → All P (xs ++ ys) → All P xs × All P ys
+all_split : {X : Type 0} (P : X → Type 0) (xs ys : List X) → AllByRecursion P (xs ++ ys) → AllByRecursion P xs × AllByRecursion P ys
 all_split P [] ys h = (tt, h)
 all_split P (x ∷ xs) ys h = let r = all_split P xs ys h.1 in ((h.0, r.0), r.1)
 
@@ -90,7 +90,7 @@ branch_not_straight k e q = let never : ◌≡◌ {A = ℕ} 0 1 = cc in omega ar
 ending_not_straight : (k : Exits) → k ≡ exits.None → k ≢ exits.One
 ending_not_straight k e q = let never : ◌≡◌ {A = ℕ} 0 1 = cc in omega arith
 
-formed_after : (k : Exits) (way : ℕ) (done q : List Node) → All IsStraight done → Formed k way q → Formed k way (done ++ q)
+formed_after : (k : Exits) (way : ℕ) (done q : List Node) → AllByRecursion IsStraight done → Formed k way q → Formed k way (done ++ q)
 formed_after k way done [] a h = absurd h
 formed_after k way done (n ∷ rest) a h = formed_behind k way done n rest a h
 
@@ -141,7 +141,7 @@ module _ {F : Type 0} {v : FactsOf F} {m : MovesOf F} (sound : MovesShow v m) (f
   pub record Good (c : Course F) (rest : List Node) : Type 0 where
     pub acts : (s : State) → Valid s → v.allows f₀ (state s) → leaving c.way (through (c.done ++ rest) s) ≡ leaving 0 (does n₀ s)
     pub formed : Formed (exits_of n₀) c.way (c.done ++ rest)
-    pub proper : All Proper (c.done ++ rest)
+    pub proper : AllByRecursion Proper (c.done ++ rest)
     pub short : length (c.done ++ rest) ≤ 4
     pub reaches : (s t : State) → Valid s → v.allows f₀ (state s) → through (straights c.done) s ≡ goes t → Valid t × v.allows c.fact (state t)
     pub numbers : Numbers c.replaced c.numbers
@@ -152,7 +152,7 @@ module _ {F : Type 0} {v : FactsOf F} {m : MovesOf F} (sound : MovesShow v m) (f
       record {
         acts = λ s ok a. subst (λ q. leaving c.way (through q s) ≡ leaving 0 (does n₀ s)) one (h.acts s ok a);
         formed = subst (Formed (exits_of n₀) c.way) one h.formed;
-        proper = subst (All Proper) one h.proper;
+        proper = subst (AllByRecursion Proper) one h.proper;
         short = subst (λ q. length q ≤ 4) one h.short;
         reaches = λ s t ok a e. past (exits_of n) refl s t ok a (sym (ap (λ q. through q s) (straights_append c.done (n ∷ []))) ∙ e);
         numbers = h.numbers;
@@ -188,7 +188,7 @@ module _ {F : Type 0} {v : FactsOf F} {m : MovesOf F} (sound : MovesShow v m) (f
         numbers = union c.replaced c.numbers numbers h.numbers p.0.some p.0.known p.0.even;
       }
     where
-      run : All IsStraight c.done → FormedFrom (exits_of n₀) c.way n rest → (s : State) → Valid s → v.allows f₀ (state s) → (o : Outcome) → through c.done s ≡ o
+      run : AllByRecursion IsStraight c.done → FormedFrom (exits_of n₀) c.way n rest → (s : State) → Valid s → v.allows f₀ (state s) → (o : Outcome) → through c.done s ≡ o
           → leaving (way_after (exits_of n) c.way way) (onward o (through (row ++ rest))) ≡ leaving c.way (onward o (through (n ∷ rest)))
       run straight form s ok a (goes u) e =
           let reached = h.reaches s u ok a (ap (λ q. through q s) (straights_all c.done straight) ∙ e) in
@@ -242,18 +242,18 @@ module _ {F : Type 0} {v : FactsOf F} {m : MovesOf F} (sound : MovesShow v m) (f
   pub course_good : Proper n₀ → Good (course m f₀ n₀) []
   course_good proper = looked_good depth_limit n₀ [] (begun f₀) (begun_good proper)
 
-last_proper : (n : Node) (rest : List Node) → All Proper (n ∷ rest) → Proper (last_of n rest)
+last_proper : (n : Node) (rest : List Node) → AllByRecursion Proper (n ∷ rest) → Proper (last_of n rest)
 last_proper n [] h = h.0
 last_proper n (x ∷ rest) h = last_proper x rest h.1
 
-row_last_proper : (row : List Node) → All Proper row → Proper (last_of Skip row)
+row_last_proper : (row : List Node) → AllByRecursion Proper row → Proper (last_of Skip row)
 row_last_proper [] h = refl
 row_last_proper (n ∷ rest) h = last_proper n rest h
 
 module _ {F : Type 0} {v : FactsOf F} {m : MovesOf F} (sound : MovesShow v m) where
   -- the fact for an exit, by the kind of the row's last node
   exit_good : (f₀ : F) (c : Course F) (K : Exits) (s t : State) (e : ℕ) → Valid s → v.allows f₀ (state s)
-      → Formed K c.way c.done → All Proper c.done
+      → Formed K c.way c.done → AllByRecursion Proper c.done
       → ((t : State) → through (straights c.done) s ≡ goes t → Valid t × v.allows c.fact (state t))
       → leaving c.way (through c.done s) ≡ turns e t
       → v.allows (fact_by m v (exits_of (last_of Skip c.done)) c e) (state t)
@@ -283,7 +283,7 @@ module _ {F : Type 0} {v : FactsOf F} {m : MovesOf F} (sound : MovesShow v m) wh
       no_exit n k (turns x u) q l = absurd q
       no_exit n k (stops z u) q l = stops_not_turns z e u t l
 
-      by_kind : (n : Node) (rest : List Node) → FormedFrom K c.way n rest → All Proper (n ∷ rest)
+      by_kind : (n : Node) (rest : List Node) → FormedFrom K c.way n rest → AllByRecursion Proper (n ∷ rest)
           → ((t : State) → through (straights (n ∷ rest)) s ≡ goes t → Valid t × v.allows c.fact (state t))
           → leaving c.way (through (n ∷ rest) s) ≡ turns e t
           → (k : Exits) → exits_of (last_of n rest) ≡ k → v.allows (fact_by m v k (with_done (n ∷ rest)) e) (state t)
@@ -297,7 +297,7 @@ module _ {F : Type 0} {v : FactsOf F} {m : MovesOf F} (sound : MovesShow v m) wh
           no_exit (last_of n rest) k (through (straights (n ∷ rest)) s) (row_no_turn (straights (n ∷ rest)) s (straights_straight (n ∷ rest)))
           (sym (ap (leaving c.way) (last_other K c.way n rest s f (ending_not_straight (exits_of (last_of n rest)) k))) ∙ l)
 
-      at_row : (d : List Node) → Formed K c.way d → All Proper d
+      at_row : (d : List Node) → Formed K c.way d → AllByRecursion Proper d
           → ((t : State) → through (straights d) s ≡ goes t → Valid t × v.allows c.fact (state t))
           → leaving c.way (through d s) ≡ turns e t
           → v.allows (fact_by m v (exits_of (last_of Skip d)) (with_done d) e) (state t)
@@ -305,8 +305,8 @@ module _ {F : Type 0} {v : FactsOf F} {m : MovesOf F} (sound : MovesShow v m) wh
       at_row (n ∷ rest) f p r l = by_kind n rest f p r l (exits_of (last_of n rest)) refl
 
   -- the finished row has the form for the node, and acts as it
-  pub done_proper : (f : F) (n : Node) → Proper n → All Proper (course m f n).done
-  done_proper f n h = subst (All Proper) (append-nil (course m f n).done) (course_good sound f n h).proper
+  pub done_proper : (f : F) (n : Node) → Proper n → AllByRecursion Proper (course m f n).done
+  done_proper f n h = subst (AllByRecursion Proper) (append-nil (course m f n).done) (course_good sound f n h).proper
 
   pub done_last_proper : (f : F) (n : Node) → Proper n → Proper (last_of Skip (course m f n).done)
   done_last_proper f n h = row_last_proper (course m f n).done (done_proper f n h)
@@ -330,7 +330,7 @@ module _ {F : Type 0} {v : FactsOf F} {m : MovesOf F} (sound : MovesShow v m) wh
           let form = subst (Formed (exits_of n) c.way) nil g.formed in (
             for_row n c.done c.way c.numbers (record {
               formed = form;
-              proper = subst (All Proper) nil g.proper;
+              proper = subst (AllByRecursion Proper) nil g.proper;
               short = subst (λ q. length q ≤ 4) nil g.short;
               some = g.numbers.some e;
               known = g.numbers.known;

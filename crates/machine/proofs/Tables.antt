@@ -3,7 +3,7 @@ use Rattle.std.proofs.Common.{◌≡◌, ℕ, ◌<◌, ◌≤◌, true, false, l
 use Rattle.std.proofs.ByRecursion.{All-get_or, All-from_get_or, Decides-by_and}
 use Rattle.std.proofs.lemmas.List.{get_or-set_same, get_or-set_other, get_or-take, get_or_past, length-take-le}
 use Rattle.std.proofs.lemmas.Bool.{cases_eq, cases_lt, and_parts, and_from, and_right, cond-false, ltb-true, lt-ltb, le-leb}
-use Rattle.std.specs.List.{AllByRecursion as All}
+use Rattle.std.specs.List.{AllByRecursion}
 use Rattle.machine.specs.declared.node.Entry.{Entry}
 use Rattle.machine.specs.declared.node.Exits.{Exits}
 use Rattle.machine.specs.declared.node.Exits.TheVariants as exits
@@ -39,11 +39,11 @@ sound_later n m e h good =
     sound_from m e (record { node = t.node; two = t.two; leads = leads_later n m (exits_of e.node) e.targets h t.leads })
 
 -- the test of a whole list, by places
-every_decides : (count : ℕ) (es : List Entry) → Decides (every_sound count es) (All (Sound count) es)
+every_decides : (count : ℕ) (es : List Entry) → Decides (every_sound count es) (AllByRecursion (Sound count) es)
 every_decides count es =
     Decides-by_and (sound count) (Sound count) (every_sound count) (λ e. (λ t. t, λ t. t)) refl (λ _ _. refl) es
 
-pub every_from_all : (count : ℕ) (es : List Entry) → All (Sound count) es → every_sound count es ≡ true
+pub every_from_all : (count : ℕ) (es : List Entry) → AllByRecursion (Sound count) es → every_sound count es ≡ true
 every_from_all count es all = (every_decides count es).1 all
 
 module _ (count : ℕ) (entries : List Entry) (n : ℕ) (fits : n ≤ length entries) where

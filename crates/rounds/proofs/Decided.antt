@@ -1,6 +1,6 @@
 -- What a round makes: the changes ascend, each is what the pile proposes for its node, and the program stays the same to every machine.
 use Rattle.std.proofs.Common.{◌≡◌, ℕ, zero, suc, ◌+◌, ◌<◌, ◌≤◌, Bool, true, false, cond, leb, List, [], ◌∷◌, length, Some, None, Option, sym, refl, subst, arith}
-use Rattle.std.specs.List.{AllByRecursion as All}
+use Rattle.std.specs.List.{AllByRecursion}
 use Rattle.std.proofs.ByRecursion.{All-weaker}
 use Rattle.std.proofs.lemmas.Bool.{leb-true}
 use Rattle.machine.specs.declared.node.Node.{Node}
@@ -32,7 +32,7 @@ module _ {Fact : Type 0} (v : FactsOf Fact) (m : MovesOf Fact) (p : Prog) (facts
 
   pub record Made (from low size : ℕ) (cs : List Replacement) : Type 0 where
     pub rising : Rising from low cs
-    pub from_pile : All FromPile cs
+    pub from_pile : AllByRecursion FromPile cs
     pub fitting : Fitting size cs
 
   pub offered_from_pile : (n : ℕ) (c : Replacement) → offered v m p facts n ≡ Some c → (c.at ≡ n) × FromPile c
@@ -110,11 +110,11 @@ module _ {Fact : Type 0} (v : FactsOf Fact) (m : MovesOf Fact) (p : Prog) (facts
         let shown = subst (ProposalShows v fact node) told_of.said (shows.proposal fact node proper) in
         record { place = below; form = shown.0; acts = shown.1 }
 
-    all_shown : (cs : List Replacement) (from : ℕ) → Rising from (length p.entries) cs → All FromPile cs → All Shown cs
+    all_shown : (cs : List Replacement) (from : ℕ) → Rising from (length p.entries) cs → AllByRecursion FromPile cs → AllByRecursion Shown cs
     all_shown [] from up all = tt
     all_shown (c ∷ cs) from up all = (from_pile_shown c up.1 all.0, all_shown cs (suc c.at) up.2 all.1)
 
-    pub made_shown : (k n size : ℕ) → n + k ≤ length p.entries → All Shown (decided v m p facts k n size).made
+    pub made_shown : (k n size : ℕ) → n + k ≤ length p.entries → AllByRecursion Shown (decided v m p facts k n size).made
     made_shown k n size room =
         let made = decided_made k n size (length p.entries) room in
         all_shown (decided v m p facts k n size).made n made.rising made.from_pile

@@ -1,6 +1,6 @@
 -- A text whose lines have no fault.
 use Rattle.std.proofs.Common.{◌≡◌, ℕ, ◌+◌, ◌-◌, ◌<◌, ◌≤◌, cond, ltb, List, [], ◌∷◌, ◌++◌, length, get_or, take, Some, None, Option, sym, refl, ap, ◌∙◌, arith}
-use Rattle.std.specs.List.{join_with_byte, AllByRecursion as All}
+use Rattle.std.specs.List.{join_with_byte, AllByRecursion}
 use Rattle.std.proofs.lemmas.List.{length-take-le, length-append}
 use Rattle.std.proofs.lemmas.Bool.{lt-ltb, le-ltb}
 use Rattle.machine.specs.declared.node.Entry.{Entry}
@@ -29,7 +29,7 @@ passed text short none =
     ap (λ b. cond {A = Option Place} b (Some (1, 0, 0)) (either (lines_fault 0 ps) (targets_fault (length ps - 2) 0 ps))) (le-ltb text_limit (length text) short)
     ∙ ap (λ o. either o (targets_fault (length ps - 2) 0 ps)) none
 
-fit_sound : (n : ℕ) (es : List Entry) → n ≤ node_limit → All EntryFits es → All (TargetsBelow n) es → All (Sound n) es
+fit_sound : (n : ℕ) (es : List Entry) → n ≤ node_limit → AllByRecursion EntryFits es → AllByRecursion (TargetsBelow n) es → AllByRecursion (Sound n) es
 fit_sound n [] few a b = tt
 fit_sound n (e ∷ es) few a b = (fits_sound n few e a.0 b.0, fit_sound n es few a.1 b.1)
 
@@ -96,7 +96,7 @@ module _ (p : Prog) (ok : IsProgram p) where
       ∙ ap (λ b. cond {A = Option Place} b None (Some (7, n + 1, 4))) (lt-ltb p.first n ok.starts)
 
 -- the lines of nodes, and other lines behind them, tell the nodes
-nodes_tell : (m : ℕ) (es fs : List Entry) (t u : List (List ℕ)) → length es ≡ length fs → m + length es ≤ 200 → All EntryFits es → All EntryFits fs
+nodes_tell : (m : ℕ) (es fs : List Entry) (t u : List (List ℕ)) → length es ≡ length fs → m + length es ≤ 200 → AllByRecursion EntryFits es → AllByRecursion EntryFits fs
     → node_texts m es ++ t ≡ node_texts m fs ++ u → (es ≡ fs) × (t ≡ u)
 nodes_tell m [] [] t u long few a b e = (refl, e)
 nodes_tell m [] (f ∷ fs) t u long few a b e = absurd (omega arith)

@@ -1,6 +1,6 @@
 -- Lines, one after another.
 use Rattle.std.proofs.Common.{◌≡◌, ℕ, ◌+◌, ◌<◌, ◌≤◌, false, cond, eqb, ltb, List, [], ◌∷◌, ◌++◌, length, take, drop, set, Some, None, sym, refl, ap, ◌∙◌, inl, inr, append_assoc, arith}
-use Rattle.std.specs.List.{join_with_byte, AllByRecursion as All}
+use Rattle.std.specs.List.{join_with_byte, AllByRecursion}
 use Rattle.std.proofs.ByRecursion.{All-push}
 use Rattle.std.proofs.lemmas.List.{take_more_set, length-take-le, length-set}
 use Rattle.std.proofs.lemmas.Bool.{cases_Bool, eqb-true, eqb-false, ne_eqb}
@@ -86,14 +86,14 @@ module _ (es : List Entry) (n : ℕ) (e : Entry) (room : n < length es) where
       h ∙ ap (λ (x : List ℕ). node_texts 0 (take n es) ++ x ∷ rest) line
       ∙ sym (ap (λ (x : List (List ℕ)). x ++ rest) more ∙ append_assoc (node_texts 0 (take n es)) (join_with_byte 32 (entry_words n e) ∷ []) rest)
 
-  pub fit_more : All EntryFits (take n es) → EntryFits e → All EntryFits (take (n + 1) (set es n e))
+  pub fit_more : AllByRecursion EntryFits (take n es) → EntryFits e → AllByRecursion EntryFits (take (n + 1) (set es n e))
   fit_more a f = rw (take_more_set es n e room) (All-push EntryFits (take n es) e a f)
 
 -- what the loop over the lines keeps: from s to t, `count` nodes were read
 pub record NodesSoFar (s : Parts) (entries : List Entry) (count : ℕ) (t : Parts) : Type 0 where
   pub spelled : left s ≡ node_texts 0 (take count entries) ++ left t
   pub goes_on : lines_fault 0 (left s) ≡ lines_fault count (left t)
-  pub fit : All EntryFits (take count entries)
+  pub fit : AllByRecursion EntryFits (take count entries)
   pub small : count ≤ 200
   pub number : t.number ≡ count
   pub room : length entries ≡ 200

@@ -1,6 +1,6 @@
 -- What the readers of lines answer.
 use Rattle.std.specs.Prelude.{◌≡◌, ℕ, ◌+◌, ◌<◌, ◌≤◌, true, List, [], ◌∷◌, ◌++◌, length, take, Some, None, Result, MatchResult}
-use Rattle.std.specs.List.{join_with_byte, AllByRecursion as All}
+use Rattle.std.specs.List.{join_with_byte, AllByRecursion}
 use Rattle.machine.specs.declared.node.Entry.{Entry}
 use Rattle.text.specs.declared.read.parts.Parts.{Parts}
 use Rattle.text.specs.declared.refusal.TextRefusal.{TextRefusal}
@@ -31,7 +31,7 @@ pub record NodesOk (s : Parts) (entries : List Entry) (count : ℕ) (trailer : L
   pub goes_on : lines_fault 0 (left s) ≡ lines_fault count (trailer ∷ left t)
   pub ends : is_trailer trailer ≡ true
   pub ended : 0 < length (left t)
-  pub fit : All EntryFits (take count entries)
+  pub fit : AllByRecursion EntryFits (take count entries)
   pub small : count ≤ node_limit
   pub number : t.number ≡ count + 1
 
@@ -39,7 +39,7 @@ pub record NodesOk (s : Parts) (entries : List Entry) (count : ℕ) (trailer : L
 pub record LinesOk (ls : List (List ℕ)) (entries : List Entry) (n first : ℕ) : Type 0 where
   pub spelled : ls ≡ node_texts 0 (take n entries) ++ join_with_byte 32 (trailer_words n first) ∷ [] ∷ []
   pub passes : lines_fault 0 ls ≡ None
-  pub fit : All EntryFits (take n entries)
+  pub fit : AllByRecursion EntryFits (take n entries)
   pub small : n ≤ node_limit
   pub some : 0 < n
   pub first_small : first ≤ node_number_limit

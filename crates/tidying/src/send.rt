@@ -1,6 +1,6 @@
 // Sending targets elsewhere.
 ghost use Rattle.std.specs.Prelude.{◌≡◌, ℕ, ◌<◌, map, length, slice_index};
-ghost use Rattle.std.specs.List.{AllByRecursion as All};
+ghost use Rattle.std.specs.List.{AllByRecursion};
 ghost use Rattle.tidying.specs.Skips.{retargeted};
 ghost use Rattle.tidying.specs.Targets.{TargetsBelow};
 
@@ -24,7 +24,7 @@ fn retarget(entry: Entry, to: &[NodeNumber]) -> Entry
 
 /// Sends the targets t of all entries to `to[t]`.
 pub(crate) fn send(entries: &mut [Entry], to: &[NodeNumber])
-    requires { All (TargetsBelow (length to.now)) entries.old }
+    requires { AllByRecursion (TargetsBelow (length to.now)) entries.old }
     ensures { entries.new ≡ map (retargeted (λ n. slice_index to.now n)) entries.old }
 {
     for i in 0..entries.len() {

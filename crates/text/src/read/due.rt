@@ -4,7 +4,7 @@ ghost use Rattle.std.specs.Prelude.{◌≡◌, ◌<◌, ◌≤◌, Some, codes, 
 ghost use Rattle.machine.specs.Limits.{node_limit};
 ghost use Rattle.text.specs.Limits.{node_number_limit, fault_limit};
 ghost use Rattle.text.specs.Print.{register_word, cell_word, fault_word, operand_word, label_word};
-ghost use Rattle.text.specs.Rows.{exactly, register as aRegister, cell as aCell, fault as aFault, value as aValue, target as aTarget, count as aCount, label as aLabel, name as aName, kind_named};
+ghost use Rattle.text.specs.Rows.{exactly, register as a_register, cell as a_cell, fault as a_fault, value as a_value, target as a_target, count as a_count, label as a_label, name as a_name, kind_named};
 ghost use Rattle.text.specs.Kinds.{kind_name};
 ghost use Rattle.text.specs.WordReads.{WordRead, OperandFits};
 
@@ -19,7 +19,7 @@ const NODE_NUMBER_LIMIT: u32 = 255;
 const FAULT_LIMIT: u32 = 255;
 
 pub(super) fn register(part: &[u8]) -> Result<u8, Cause>
-    ensures { WordRead aRegister register_word (λ n. n ≤ 7) part.now result }
+    ensures { WordRead a_register register_word (λ n. n ≤ 7) part.now result }
 {
     match sort_of(part) {
         Some(Sort::Register) => Ok(number_in(Word::Operand(part), 7)? as u8),
@@ -28,7 +28,7 @@ pub(super) fn register(part: &[u8]) -> Result<u8, Cause>
 }
 
 pub(super) fn cell(part: &[u8]) -> Result<u8, Cause>
-    ensures { WordRead aCell cell_word (λ n. n ≤ 63) part.now result }
+    ensures { WordRead a_cell cell_word (λ n. n ≤ 63) part.now result }
 {
     match sort_of(part) {
         Some(Sort::Cell) => Ok(number_in(Word::Operand(part), 63)? as u8),
@@ -37,7 +37,7 @@ pub(super) fn cell(part: &[u8]) -> Result<u8, Cause>
 }
 
 pub(super) fn fault(part: &[u8]) -> Result<u8, Cause>
-    ensures { WordRead aFault fault_word (λ n. n ≤ fault_limit) part.now result }
+    ensures { WordRead a_fault fault_word (λ n. n ≤ fault_limit) part.now result }
 {
     match sort_of(part) {
         Some(Sort::Fault) => Ok(number_in(Word::Operand(part), FAULT_LIMIT)? as u8),
@@ -46,7 +46,7 @@ pub(super) fn fault(part: &[u8]) -> Result<u8, Cause>
 }
 
 pub(super) fn operand(part: &[u8]) -> Result<Operand, Cause>
-    ensures { WordRead aValue operand_word OperandFits part.now result }
+    ensures { WordRead a_value operand_word OperandFits part.now result }
 {
     match sort_of(part) {
         Some(Sort::Register) => Ok(Operand::Reg(number_in(Word::Operand(part), 7)? as u8)),
@@ -56,20 +56,20 @@ pub(super) fn operand(part: &[u8]) -> Result<Operand, Cause>
 }
 
 pub(super) fn target(part: &[u8]) -> Result<NodeNumber, Cause>
-    ensures { WordRead aTarget decimal (λ n. n ≤ node_number_limit) part.now result }
+    ensures { WordRead a_target decimal (λ n. n ≤ node_number_limit) part.now result }
 {
     Ok(number_in(Word::Number(part), NODE_NUMBER_LIMIT)? as NodeNumber)
 }
 
 pub(super) fn count(part: &[u8]) -> Result<NodeNumber, Cause>
-    ensures { WordRead aCount decimal (λ n. n ≤ node_number_limit) part.now result }
+    ensures { WordRead a_count decimal (λ n. n ≤ node_number_limit) part.now result }
 {
     Ok(number_in(Word::Number(part), NODE_NUMBER_LIMIT)? as NodeNumber)
 }
 
 /// The kind that a word names.
 pub(super) fn named(part: &[u8]) -> Result<Kind, Cause>
-    ensures { WordRead aName kind_name (λ k. kind_named (kind_name k) ≡ Some k) part.now result }
+    ensures { WordRead a_name kind_name (λ k. kind_named (kind_name k) ≡ Some k) part.now result }
 {
     match kind_in(Word::Kind(part)) {
         Some(kind) => Ok(kind),
@@ -79,7 +79,7 @@ pub(super) fn named(part: &[u8]) -> Result<Kind, Cause>
 
 /// Sees that the label is that of the next node, and that such a node can exist.
 pub(super) fn label(part: &[u8], next: NodeNumber) -> Result<(), Cause>
-    ensures { WordRead (aLabel next) (λ _. label_word next) (λ _. next ≢ node_limit) part.now result }
+    ensures { WordRead (a_label next) (λ _. label_word next) (λ _. next ≢ node_limit) part.now result }
 {
     let number = number_in(Word::Label(part), NODE_NUMBER_LIMIT)?;
     if number != next as u32 {

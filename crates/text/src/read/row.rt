@@ -7,7 +7,7 @@ ghost use Rattle.text.specs.Cuts.{left};
 ghost use Rattle.text.specs.Limits.{node_number_limit, fault_limit};
 ghost use Rattle.text.specs.Print.{register_word, cell_word, fault_word, operand_word, label_word};
 ghost use Rattle.text.specs.Kinds.{kind_name};
-ghost use Rattle.text.specs.Rows.{register as aRegister, cell as aCell, fault as aFault, value as aValue, target as aTarget, count as aCount, label as aLabel, name as aName, exactly, kind_named, row_fault, word_fault};
+ghost use Rattle.text.specs.Rows.{register as a_register, cell as a_cell, fault as a_fault, value as a_value, target as a_target, count as a_count, label as a_label, name as a_name, exactly, kind_named, row_fault, word_fault};
 ghost use Rattle.text.specs.RowReads.{RowRead};
 ghost use Rattle.text.specs.WordReads.{OperandFits};
 
@@ -32,7 +32,7 @@ impl<'a> Parts<'a> {
 
     pub(super) fn register(&mut self) -> Result<u8, Cause>
         requires { self.old.number < 10000 }
-        ensures { RowRead (aRegister ∷ []) (λ n. register_word n ∷ []) (λ n. n ≤ 7) self.old result self.new }
+        ensures { RowRead (a_register ∷ []) (λ n. register_word n ∷ []) (λ n. n ≤ 7) self.old result self.new }
     {
         let part = self.word()?;
         due::register(part)
@@ -40,7 +40,7 @@ impl<'a> Parts<'a> {
 
     pub(super) fn cell(&mut self) -> Result<u8, Cause>
         requires { self.old.number < 10000 }
-        ensures { RowRead (aCell ∷ []) (λ n. cell_word n ∷ []) (λ n. n ≤ 63) self.old result self.new }
+        ensures { RowRead (a_cell ∷ []) (λ n. cell_word n ∷ []) (λ n. n ≤ 63) self.old result self.new }
     {
         let part = self.word()?;
         due::cell(part)
@@ -48,7 +48,7 @@ impl<'a> Parts<'a> {
 
     pub(super) fn fault(&mut self) -> Result<u8, Cause>
         requires { self.old.number < 10000 }
-        ensures { RowRead (aFault ∷ []) (λ n. fault_word n ∷ []) (λ n. n ≤ fault_limit) self.old result self.new }
+        ensures { RowRead (a_fault ∷ []) (λ n. fault_word n ∷ []) (λ n. n ≤ fault_limit) self.old result self.new }
     {
         let part = self.word()?;
         due::fault(part)
@@ -56,7 +56,7 @@ impl<'a> Parts<'a> {
 
     pub(super) fn operand(&mut self) -> Result<Operand, Cause>
         requires { self.old.number < 10000 }
-        ensures { RowRead (aValue ∷ []) (λ x. operand_word x ∷ []) (OperandFits) self.old result self.new }
+        ensures { RowRead (a_value ∷ []) (λ x. operand_word x ∷ []) (OperandFits) self.old result self.new }
     {
         let part = self.word()?;
         due::operand(part)
@@ -64,7 +64,7 @@ impl<'a> Parts<'a> {
 
     pub(super) fn target(&mut self) -> Result<NodeNumber, Cause>
         requires { self.old.number < 10000 }
-        ensures { RowRead (aTarget ∷ []) (λ n. decimal n ∷ []) (λ n. n ≤ node_number_limit) self.old result self.new }
+        ensures { RowRead (a_target ∷ []) (λ n. decimal n ∷ []) (λ n. n ≤ node_number_limit) self.old result self.new }
     {
         let part = self.word()?;
         due::target(part)
@@ -97,7 +97,7 @@ impl<'a> Parts<'a> {
     /// A number of nodes.
     pub(super) fn count(&mut self) -> Result<NodeNumber, Cause>
         requires { self.old.number < 10000 }
-        ensures { RowRead (aCount ∷ []) (λ n. decimal n ∷ []) (λ n. n ≤ node_number_limit) self.old result self.new }
+        ensures { RowRead (a_count ∷ []) (λ n. decimal n ∷ []) (λ n. n ≤ node_number_limit) self.old result self.new }
     {
         let part = self.word()?;
         due::count(part)
@@ -105,7 +105,7 @@ impl<'a> Parts<'a> {
 
     pub(super) fn label(&mut self, next: NodeNumber) -> Result<(), Cause>
         requires { self.old.number < 10000 }
-        ensures { RowRead (aLabel next ∷ []) (λ _. label_word next ∷ []) (λ _. next ≢ node_limit) self.old result self.new }
+        ensures { RowRead (a_label next ∷ []) (λ _. label_word next ∷ []) (λ _. next ≢ node_limit) self.old result self.new }
     {
         let part = self.word()?;
         due::label(part, next)
@@ -113,7 +113,7 @@ impl<'a> Parts<'a> {
 
     pub(super) fn kind(&mut self) -> Result<Kind, Cause>
         requires { self.old.number < 10000 }
-        ensures { RowRead (aName ∷ []) (λ k. kind_name k ∷ []) (λ k. kind_named (kind_name k) ≡ Some k) self.old result self.new }
+        ensures { RowRead (a_name ∷ []) (λ k. kind_name k ∷ []) (λ k. kind_named (kind_name k) ≡ Some k) self.old result self.new }
     {
         let part = self.word()?;
         due::named(part)

@@ -1,5 +1,5 @@
 use Rattle.std.proofs.Common.{◌≡◌, ℕ, ◌-◌, ◌<◌, Bool, false, List, map, length, get_or, take, sym, ap, ◌∙◌, subst, arith}
-use Rattle.std.specs.List.{AllByRecursion as All}
+use Rattle.std.specs.List.{AllByRecursion}
 use Rattle.std.proofs.lemmas.List.{length-replicate, length-take-le, take_at}
 use Rattle.machine.specs.Programs.{prog}
 use Rattle.tidying.specs.Reached.{reached_marks}
@@ -29,16 +29,16 @@ numbers_are c k below =
     c.number.ensures k (omega arith) ∙ ap (λ (l : List Bool). rank l k) c.reach.ensures
 
 -- the targets of what is kept are nodes
-kept_below : (c : After-keep-kept) → All (TargetsBelow (length c.args.entries.now)) (take (c.keep-kept.result - 0) c.keep-kept.new.entries)
+kept_below : (c : After-keep-kept) → AllByRecursion (TargetsBelow (length c.args.entries.now)) (take (c.keep-kept.result - 0) c.keep-kept.new.entries)
 kept_below c =
     let p = prog c.args.entries.now c.args.first in
     let zero-less : c.keep-kept.result - 0 ≡ c.keep-kept.result = omega arith in
-    subst (All (TargetsBelow (length c.args.entries.now))) (sym (ap (λ k. take k c.keep-kept.new.entries) zero-less ∙ kept_are c))
+    subst (AllByRecursion (TargetsBelow (length c.args.entries.now))) (sym (ap (λ k. take k c.keep-kept.new.entries) zero-less ∙ kept_are c))
     (marked_all (TargetsBelow (length c.args.entries.now)) (reached_marks p) c.args.entries.now (program_targets p c.requires.whole))
 
 pub send-requires : goal.send-requires
 send-requires c =
-    subst (λ (k : ℕ). All (TargetsBelow k) (take (c.keep-kept.result - 0) c.keep-kept.new.entries)) (sym (c.number.auto.numbers ∙ c.requires.each))
+    subst (λ (k : ℕ). AllByRecursion (TargetsBelow k) (take (c.keep-kept.result - 0) c.keep-kept.new.entries)) (sym (c.number.auto.numbers ∙ c.requires.each))
     (kept_below (goal.at.send-requires c).After-keep-kept)
 
 pub returns : goal.returns

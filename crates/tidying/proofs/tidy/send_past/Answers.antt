@@ -1,5 +1,5 @@
 use Rattle.std.proofs.Common.{ℕ, length, get_or, sym, ◌∙◌, subst}
-use Rattle.std.specs.List.{AllByRecursion as All}
+use Rattle.std.specs.List.{AllByRecursion}
 use Rattle.machine.specs.Programs.{prog}
 use Rattle.tidying.specs.Skips.{past}
 use Rattle.tidying.specs.Targets.{TargetsBelow}
@@ -8,7 +8,7 @@ use Rattle.tidying.proofs.tidy.send_past.Goals as goal
 
 pub send-requires : goal.send-requires
 send-requires c =
-    subst (λ (k : ℕ). All (TargetsBelow k) c.args.entries.now) (sym (c.find_past.auto.sent ∙ c.requires.each)) (program_targets (prog c.args.entries.now c.args.first) c.requires.whole)
+    subst (λ (k : ℕ). AllByRecursion (TargetsBelow k) c.args.entries.now) (sym (c.find_past.auto.sent ∙ c.requires.each)) (program_targets (prog c.args.entries.now c.args.first) c.requires.whole)
 
 pub returns : goal.returns
 returns c =
