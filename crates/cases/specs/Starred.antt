@@ -39,6 +39,9 @@ SpentAtOnce = (p : Prog) (cells inputs : List ℕ) (room : ℕ) → whole p cell
 abbrev pub NoNodes : Type 0
 NoNodes = (text_fault (codes "end 0 from 0" ++ 10 ∷ []) ≡ Some (6, 1, 2)) × (text_fault [] ≡ Some (6, 1, 0))
 
+abbrev pub Starred : Type 0
+Starred = Words × NodeDivides × RunDivides × SpentAtOnce × NoNodes
+
 -- `mov r0 #4`, a branch on it, and an ending for each exit
 abbrev pub four_nodes : Prog
 four_nodes =
@@ -60,5 +63,5 @@ BranchSkipped =
     verdicts standard_facts standard_moves four_nodes
     ≡ record { made = record { at = 1; node = Br (Reg 0); row = Skip ∷ []; way = 0; numbers = 18 } ∷ []; short = 0 }
 
-abbrev pub Starred : Type 0
-Starred = Words × NodeDivides × RunDivides × SpentAtOnce × NoNodes × ThreeVisits × BranchSkipped
+abbrev pub RoundStarred : Type 0
+RoundStarred = ThreeVisits × BranchSkipped

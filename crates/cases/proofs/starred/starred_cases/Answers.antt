@@ -11,4 +11,8 @@ use Rattle.cases.proofs.starred.starred_cases.Goals as goal
 
 pub returns : goal.returns
 unfolding looked gaps any_lost agreeing cleared joined_at arrived_at begun visited next run same_node decided
-returns c = ((refl, refl, refl), λ _ _. refl, divides, λ _ _ _ _. refl, (refl, refl), refl, refl)
+returns c =
+    record {
+      starred = ((refl, refl, refl), λ _ _. refl, divides, λ _ _ _ _. refl, (refl, refl));
+      rounds = (refl, refl);
+    }
