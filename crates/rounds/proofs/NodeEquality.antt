@@ -1,7 +1,7 @@
 -- What a derived `==` tells, from the fields up: whether two values are equal; and so at nodes.
-use Rattle.std.proofs.Common.{◌≡◌, Bool, true, false, ◌&&◌, ◌⊎◌, Decides, sym, subst, refl, ap, ◌∙◌, ap₂, inl, inr, ⊎_elim, true≢false, rules}
+use Rattle.std.proofs.Common.{◌≡◌, Bool, true, false, ◌&&◌, ◌⊎◌, Decides, sym, subst, refl, ap, ◌∙◌, ap₂, inl, inr, ⊎_elim, rules}
 use denote.Enum.Bare.{same_true, true_same}
-use Rattle.std.proofs.lemmas.Bool.Decides.{Decides-like, Decides-eqb}
+use Rattle.std.proofs.lemmas.Bool.Decides.{Decides-like, Decides-and, Decides-eqb}
 use Rattle.machine.specs.contracts.node.Node as node
 use Rattle.machine.specs.contracts.node.NodePartialEq.TheImpl as node_eq
 use Rattle.machine.specs.contracts.node.Operand as operand
@@ -20,13 +20,10 @@ none x y = (λ _. refl, λ _. refl)
 one : {A : Type 0} {P : A → A → Bool} → Tells P → Tells (λ (x y : A × Unit {0}). P x.0 y.0)
 one {P = P} p x y = Decides-like (P x.0 y.0) (λ e. ap (λ z. (z, tt)) e) (λ e. ap (λ z. z.0) e) (p x.0 y.0)
 
-both : {A B : Type 0} (a b : Bool) (x y : A × B) → Decides a (x.0 ≡ y.0) → Decides b (x.1 ≡ y.1) → Decides (a && b) (x ≡ y)
-both true true x y p q = (λ _. ap₂ (λ a b. (a, b)) (p.0 refl) (q.0 refl), λ _. refl)
-both true false x y p q = (λ e. absurd (true≢false (sym e)), λ e. q.1 (ap (λ z. z.1) e))
-both false b x y p q = (λ e. absurd (true≢false (sym e)), λ e. p.1 (ap (λ z. z.0) e))
-
 also : {A B : Type 0} {P : A → A → Bool} {Q : B → B → Bool} → Tells P → Tells Q → Tells (λ (x y : A × B). P x.0 y.0 && Q x.1 y.1)
-also {P = P} {Q = Q} p q x y = both (P x.0 y.0) (Q x.1 y.1) x y (p x.0 y.0) (q x.1 y.1)
+also {P = P} {Q = Q} p q x y =
+    Decides-like (P x.0 y.0 && Q x.1 y.1) (λ e. ap₂ (λ a b. (a, b)) e.0 e.1) (λ e. (ap (λ z. z.0) e, ap (λ z. z.1) e))
+    (Decides-and (P x.0 y.0) (Q x.1 y.1) (p x.0 y.0) (q x.1 y.1))
 
 -- the first variant, and the others
 variant : {A B : Type 0} {P : A → A → Bool} {Q : B → B → Bool} → Tells P → Tells Q →
