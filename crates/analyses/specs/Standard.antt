@@ -1,5 +1,5 @@
 -- The standard pile, as a value, and a worked example.
-use Rattle.std.specs.Prelude.{◌≡◌, true, false, [], ◌∷◌, Some, None}
+use Rattle.std.specs.Prelude.{◌≡◌, true, [], ◌∷◌, Some, None}
 use Rattle.machine.specs.declared.node.BinaryOp.TheVariants.{Mul}
 use Rattle.machine.specs.declared.node.Node.TheVariants.{Mov, Binary}
 use Rattle.machine.specs.declared.node.Operand.TheVariants.{Reg}
@@ -8,13 +8,11 @@ use Rattle.analysis.specs.Deeps.{deep_moves}
 use Rattle.analysis.specs.Facts.{FactsOf}
 use Rattle.analysis.specs.Pairs.{pair_facts, pair_moves}
 use Rattle.analysis.specs.declared.pair.PairFact.{PairFact}
-use Rattle.analyses.specs.declared.constants.Known.{Known}
-use Rattle.analyses.specs.declared.copies.Copied.{Copied}
 use Rattle.analyses.specs.declared.reach.Reach.{Reach}
 use Rattle.analyses.specs.Arithmetic.{arithmetic_moves}
 use Rattle.analyses.specs.Branches.{branch_moves}
-use Rattle.analyses.specs.Constants.{known_facts, known_moves}
-use Rattle.analyses.specs.Copies.{copied_facts, copied_moves}
+use Rattle.analyses.specs.Constants.{Known, known_facts, known_moves}
+use Rattle.analyses.specs.Copies.{Copied, copied_facts, copied_moves}
 use Rattle.analyses.specs.Reach.{reach_facts}
 
 abbrev pub StandardFact : Type 0
@@ -35,9 +33,9 @@ standard_moves = deep_moves (pair_moves known_facts (pair_facts copied_facts (pa
 -- r3 is known as 1, and r1 is a copy of r0
 abbrev pub example_fact : StandardFact
 example_fact = record {
-  first = record { nowhere = false; values = None ∷ None ∷ None ∷ Some 1 ∷ None ∷ None ∷ None ∷ None ∷ [] };
+  first = Some (None ∷ None ∷ None ∷ Some 1 ∷ None ∷ None ∷ None ∷ None ∷ []);
   second = record {
-    first = record { nowhere = false; sources = None ∷ Some 0 ∷ None ∷ None ∷ None ∷ None ∷ None ∷ None ∷ [] };
+    first = Some (None ∷ Some 0 ∷ None ∷ None ∷ None ∷ None ∷ None ∷ None ∷ []);
     second = record { first = record { reached = true }; second = record { reached = true } };
   };
 }

@@ -51,6 +51,7 @@ fn simpler_node(node: Node) -> Option<Node>
     }
 }
 
+// The same functions as of `Branches`: to share the impl, both would become one type with a parameter.
 impl Facts for Arithmetic {
     type Fact = Reach;
 
@@ -84,10 +85,7 @@ impl Analysis for Arithmetic {
         *fact
     }
 
-    fn propose(&self, fact: &Reach, node: Node) -> Proposal {
-        match simpler_node(node) {
-            Some(other) => fact.propose_one(other, 0, SET),
-            None => Proposal::ABSENT,
-        }
+    fn propose(&self, fact: &Reach, node: Node) -> Option<Proposal> {
+        simpler_node(node).and_then(|other| fact.propose_one(other, 0, SET))
     }
 }

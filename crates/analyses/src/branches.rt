@@ -31,6 +31,7 @@ fn fixed_exit(node: Node) -> Option<u8>
     }
 }
 
+// The same functions as of `Arithmetic`: to share the impl, both would become one type with a parameter.
 impl Facts for Branches {
     type Fact = Reach;
 
@@ -69,10 +70,7 @@ impl Analysis for Branches {
         }
     }
 
-    fn propose(&self, fact: &Reach, node: Node) -> Proposal {
-        match fixed_exit(node) {
-            Some(way) => fact.propose_one(Node::Skip, way, SET),
-            None => Proposal::ABSENT,
-        }
+    fn propose(&self, fact: &Reach, node: Node) -> Option<Proposal> {
+        fixed_exit(node).and_then(|way| fact.propose_one(Node::Skip, way, SET))
     }
 }

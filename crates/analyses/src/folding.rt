@@ -50,13 +50,5 @@ pub(crate) fn fold(node: Node) -> Node
 pub(crate) fn is_folded(node: Node) -> bool
     ensures { result ≡ folds node }
 {
-    match node {
-        Node::Binary {
-            op,
-            left,
-            right,
-            ..
-        } => calculate(op, left, right).is_some(),
-        _ => false,
-    }
+    matches!(node, Node::Binary { op, left, right, .. } if calculate(op, left, right).is_some())
 }

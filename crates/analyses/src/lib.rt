@@ -5,6 +5,7 @@ pub mod arithmetic;
 pub mod branches;
 pub mod constants;
 pub mod copies;
+pub mod entries;
 mod folding;
 mod operands;
 pub mod reach;

@@ -1,49 +1,54 @@
-// The operands that a node reads: at most two. For one that it has not, the number 0 stands.
-ghost use Rattle.std.specs.Prelude.{◌≡◌, true};
-ghost use Rattle.machine.specs.WellFormed.{is_node, is_operand};
-ghost use Rattle.analyses.specs.Operands.{first_operand, second_operand, with_operands};
+// The operands that a node reads.
+ghost use Rattle.std.specs.Prelude.{◌≡◌, Bool};
+ghost use Rattle.machine.specs.declared.node.Operand.{Operand};
+ghost use Rattle.analyses.specs.Operands.{on_operands, any_operand};
 
 use machine::node::{Node, Operand};
 
-pub(crate) fn first_operand(node: Node) -> Operand
-    ensures exact { result ≡ first_operand node }
-    ensures fits { is_node node ≡ true → is_operand result ≡ true }
+/// The node with each operand that it reads replaced.
+pub(crate) fn on_operands<G: Fn(Operand) -> Operand>(node: Node, replace: G) -> Node
+    requires { G.IsAlwaysCallable replace }
+    ensures { (g : Operand → Operand) → ((x y : Operand) → G.post replace x y → y ≡ g x) → result ≡ on_operands g node }
+{
+    match node {
+        Node::Mov { to, from } => Node::Mov {
+            to,
+            from: replace(from),
+        },
+        Node::Binary {
+            op,
+            to,
+            left,
+            right,
+        } => Node::Binary {
+            op,
+            to,
+            left: replace(left),
+            right: replace(right),
+        },
+        Node::Out { from } => Node::Out {
+            from: replace(from),
+        },
+        Node::St { cell, from } => Node::St {
+            cell,
+            from: replace(from),
+        },
+        Node::Br { on } => Node::Br { on: replace(on) },
+        Node::In { .. } | Node::Ld { .. } | Node::Skip | Node::Halt | Node::Fail { .. } => node,
+    }
+}
+
+/// Whether one of the operands that the node reads passes.
+pub(crate) fn any_operand<P: Fn(Operand) -> bool>(node: Node, passes: P) -> bool
+    requires { P.IsAlwaysCallable passes }
+    ensures { (p : Operand → Bool) → ((x : Operand) (y : Bool) → P.post passes x y → y ≡ p x) → result ≡ any_operand p node }
 {
     match node {
         Node::Mov { from: x, .. }
         | Node::Out { from: x }
         | Node::St { from: x, .. }
-        | Node::Br { on: x }
-        | Node::Binary { left: x, .. } => x,
-        _ => Operand::Num(0),
-    }
-}
-
-pub(crate) fn second_operand(node: Node) -> Operand
-    ensures exact { result ≡ second_operand node }
-    ensures fits { is_node node ≡ true → is_operand result ≡ true }
-{
-    match node {
-        Node::Binary { right, .. } => right,
-        _ => Operand::Num(0),
-    }
-}
-
-/// The node with these operands in the place of its own.
-pub(crate) fn with_operands(node: Node, first: Operand, second: Operand) -> Node
-    ensures { result ≡ with_operands node first second }
-{
-    match node {
-        Node::Mov { to, .. } => Node::Mov { to, from: first },
-        Node::Binary { op, to, .. } => Node::Binary {
-            op,
-            to,
-            left: first,
-            right: second,
-        },
-        Node::Out { .. } => Node::Out { from: first },
-        Node::St { cell, .. } => Node::St { cell, from: first },
-        Node::Br { .. } => Node::Br { on: first },
-        _ => node,
+        | Node::Br { on: x } => passes(x),
+        Node::Binary { left, right, .. } => passes(left) || passes(right),
+        Node::In { .. } | Node::Ld { .. } | Node::Skip | Node::Halt | Node::Fail { .. } => false,
     }
 }

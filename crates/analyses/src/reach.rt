@@ -1,12 +1,12 @@
 // Facts that say only whether a node is reached: nowhere allows no state, and reached allows every state.
 ghost use Rattle.std.specs.Prelude.{◌≡◌};
-ghost use Rattle.analysis.specs.Analyses.{meant, Filled};
+ghost use Rattle.analysis.specs.Analyses.{meant};
 ghost use Rattle.analyses.specs.Reach.{reach_facts, one_node};
 
-use analysis::proposal::{Proposal, ROW_LIMIT};
+use analysis::proposal::Proposal;
 use machine::node::Node;
 
-#[derive(Clone, Copy)]
+#[derive(Clone, Copy, PartialEq, Eq, Debug)]
 pub struct Reach {
     pub reached: bool,
 }
@@ -27,16 +27,9 @@ impl Reach {
     }
 
     /// Proposes one node; nothing at nowhere.
-    pub(crate) fn propose_one(self, node: Node, way: u8, set: u16) -> Proposal
-        ensures filled { Filled result }
-        ensures exact { meant result ≡ one_node self node way set }
+    pub(crate) fn propose_one(self, node: Node, way: u8, set: u16) -> Option<Proposal>
+        ensures { meant result ≡ one_node self node way set }
     {
-        Proposal {
-            present: self.reached,
-            row: [node; ROW_LIMIT],
-            len: 1,
-            way,
-            set,
-        }
+        self.reached.then_some(Proposal::one(node, way, set))
     }
 }

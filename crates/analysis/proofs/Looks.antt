@@ -1,24 +1,13 @@
 -- What one look at an entry comes to, as the program makes it.
-use Rattle.std.proofs.Common.{◌≡◌, ℕ, zero, suc, ◌+◌, ◌-◌, ◌<◌, ◌≤◌, true, false, cond, leb, List, [], ◌∷◌, length, get_or, take, drop, sym, refl, ap, ◌∙◌, subst, arith, length-drop}
-use Rattle.std.proofs.lemmas.List.{at_drop_more, at_drop_all}
+use Rattle.std.proofs.Common.{◌≡◌, ℕ, zero, suc, ◌+◌, ◌-◌, ◌<◌, ◌≤◌, cond, leb, List, [], ◌∷◌, length, get_or, sym, refl, ap, ◌∙◌, arith}
+use Rattle.std.specs.List.{slice_get}
+use Rattle.std.specs.Option.{unwrap_or}
+use Rattle.std.proofs.lemmas.Option.{unwrap_or-slice_get}
 use Rattle.std.proofs.lemmas.Bool.Decides.{nat_tests}
-use Rattle.analysis.specs.Analyses.{MovesOf, absent, instead, meant, ProposalShows}
-use Rattle.analysis.specs.Facts.{FactsOf}
-use Rattle.analysis.specs.declared.proposal.Proposal.{Proposal}
+use Rattle.analysis.specs.Analyses.{MovesOf, absent, instead}
 use Rattle.analysis.specs.Rows.{row_limit}
 use Rattle.analysis.specs.Deeps.{last_of, Course, kept, taken_up, each, tried, looked}
 use Rattle.machine.specs.declared.node.Node.{Node}
-
--- what a present proposal says, and an absent one
-pub meant_present : (r : Proposal) → r.present ≡ true → meant r ≡ instead (take r.len r.row) r.way r.set
-meant_present r e = ap (λ b. cond b (instead (take r.len r.row) r.way r.set) absent) e
-
-pub meant_absent : (r : Proposal) → r.present ≡ false → meant r ≡ absent
-meant_absent r e = ap (λ b. cond b (instead (take r.len r.row) r.way r.set) absent) e
-
-pub shows_present : {F : Type 0} (v : FactsOf F) (f : F) (n : Node) (r : Proposal) → r.present ≡ true → ProposalShows v f n (meant r)
-    → ProposalShows v f n (instead (take r.len r.row) r.way r.set)
-shows_present v f n r e h = subst (ProposalShows v f n) (meant_present r e) h
 
 module _ {F : Type 0} (m : MovesOf F) where
   -- with no level left the entry stays
@@ -46,22 +35,14 @@ module _ {F : Type 0} (m : MovesOf F) where
     pub looked_replaced : length c.done + length row + waiting ≤ 4 → looked m levels n waiting c ≡ each m (looked m k) row waiting (taken_up n way numbers c)
     looked_replaced h = tried_so ∙ grind (arith, nat_tests)
 
-  -- one more entry of a row
-  pub each_next : (look : Node → ℕ → Course F → Course F) (row : List Node) (i : ℕ) (n : Node) (waiting behind : ℕ) (c d : Course F)
-      → i < length row → n ≡ get_or row i n → behind ≡ length row - i - 1 + waiting → d ≡ look n behind c
-      → each m look (drop i row) waiting c ≡ each m look (drop (i + 1) row) waiting d
-  each_next look row i n waiting behind c d h e b q =
-      let left : length (drop (i + 1) row) + waiting ≡ behind = simp length-drop (omega arith) in
-      at_drop_more (λ r. each m look r waiting c) row i n h
-      ∙ ap (each m look (drop (i + 1) row) waiting) (ap (λ x. look x (length (drop (i + 1) row) + waiting) c) (sym e) ∙ ap (λ k. look n k c) left ∙ sym q)
+-- the last node of a row
+last_at : (row : List Node) (k : ℕ) (d n : Node) → suc k ≡ length row → last_of n row ≡ get_or row k d
+last_at [] k d n h = absurd (omega arith)
+last_at (x ∷ []) zero d n h = refl
+last_at (x ∷ []) (suc k) d n h = absurd (omega arith)
+last_at (x ∷ y ∷ row) zero d n h = absurd (omega arith)
+last_at (x ∷ y ∷ row) (suc k) d n h = last_at (y ∷ row) k d x (omega arith)
 
-  pub each_end : (look : Node → ℕ → Course F → Course F) (row : List Node) (i : ℕ) (waiting : ℕ) (c : Course F) → length row ≤ i
-      → each m look (drop i row) waiting c ≡ c
-  each_end look row i waiting c h = at_drop_all (λ r. each m look r waiting c) row i h
-
--- the last of the first k nodes
-pub last_of_take : (row : List Node) (k : ℕ) (d n : Node) → k < length row → last_of n (take (suc k) row) ≡ get_or row k d
-last_of_take [] k d n h = absurd (omega arith)
-last_of_take (x ∷ row) zero d n h = refl
-last_of_take (x ∷ []) (suc k) d n h = absurd (omega arith)
-last_of_take (x ∷ (y ∷ row)) (suc k) d n h = last_of_take (y ∷ row) k d x (omega arith)
+pub last_of_row : (row : List Node) (n : Node) → last_of n row ≡ unwrap_or (slice_get row (length row - 1)) n
+last_of_row [] n = refl
+last_of_row (x ∷ row) n = last_at (x ∷ row) (length (x ∷ row) - 1) n n (omega arith) ∙ sym (unwrap_or-slice_get (x ∷ row) (length (x ∷ row) - 1) n)

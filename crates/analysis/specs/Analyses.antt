@@ -1,13 +1,14 @@
 -- An analysis as a value, and what it must show.
-use Rattle.std.specs.Prelude.{◌≡◌, ℕ, ◌≤◌, true, cond, List, [], take, replicate}
+use Rattle.std.specs.Prelude.{◌≡◌, ℕ, true, List, [], take, replicate, Some, None, Option}
 use Rattle.machine.specs.declared.node.Node.{Node}
 use Rattle.machine.specs.Limits.{register_count}
 use Rattle.machine.specs.State.{State, Valid}
 use Rattle.machine.specs.Step.{leaves, act}
 use Rattle.machine.specs.WellFormed.{is_node}
 use Rattle.analysis.specs.declared.proposal.Proposal.{Proposal}
+use Rattle.analysis.specs.declared.proposal.Row.{Row}
 use Rattle.analysis.specs.Facts.{FactsOf, state}
-use Rattle.analysis.specs.Rows.{run_row, is_proposal, row_limit}
+use Rattle.analysis.specs.Rows.{run_row, is_proposal}
 
 -- what is proposed for a node: nothing, or a row with its way and the set of analyses that had a part in it
 pub data Proposed : Type 0 where
@@ -41,10 +42,11 @@ pub record MovesShow {Fact : Type 0} (v : FactsOf Fact) (m : MovesOf Fact) : Typ
   pub flow : (f : Fact) (n : Node) (exit : ℕ) → is_node n ≡ true → FlowShows v f n exit (m.flow f n exit)
   pub proposal : (f : Fact) (n : Node) → is_node n ≡ true → ProposalShows v f n (m.proposal f n)
 
--- what a proposal of the code says
-abbrev pub meant : Proposal → Proposed
-meant p = cond p.present (instead (take p.len p.row) p.way p.set) absent
+-- the nodes of a row of the code
+abbrev pub nodes_of : Row → List Node
+nodes_of r = take r.len r.nodes
 
--- its row lies within the four places
-abbrev pub Filled : Proposal → Type 0
-Filled p = p.len ≤ row_limit
+-- what the code proposes
+abbrev pub meant : Option Proposal → Proposed
+meant None = absent
+meant (Some p) = instead (nodes_of p.row) p.way p.set

@@ -3,8 +3,6 @@ use Rattle.std.specs.Prelude.{◌≡◌, ℕ, zero, suc, ◌+◌, ◌%◌, ◌^�
 use Rattle.std.proofs.Common.{sym, ap, subst, ◌∙◌, append-nil, append_assoc, arith, length-append}
 use Rattle.std.proofs.lemmas.Nat.{or_lt, and_le_l}
 use Rattle.std.specs.Int.Bits.{or_step, or_add_and}
-use Rattle.std.specs.List.{AllByRecursion}
-use Rattle.std.proofs.ByRecursion.{All-append}
 use Rattle.std.proofs.lemmas.Bool.{eqb-true}
 use Rattle.std.proofs.lemmas.Bool.Decides.{nat_tests}
 use Rattle.machine.specs.declared.node.Exits.{Exits}
@@ -17,6 +15,7 @@ use Rattle.machine.specs.WellFormed.{exits_of}
 use Rattle.machine.proofs.Validity.{state_after, stays_valid}
 use Rattle.analysis.specs.Analyses.{MovesOf, MovesShow, Proposed, absent, instead, ProposalShows}
 use Rattle.analysis.specs.Deeps.{Course, kept, fact_past, taken_up, way_after, each, tried, looked, begun, course, last_of, fact_by, deep_moves, depth_limit}
+use Rattle.machine.specs.Every.{Every, every_append, every_split}
 use Rattle.analysis.specs.Facts.{FactsOf, state}
 use Rattle.analysis.specs.Rows.{row_limit}
 use Rattle.analysis.specs.Forms.{Proper, Last, FormedFrom, Formed, RowFor, row_for, for_row}
@@ -47,10 +46,6 @@ goes_valid : (n : Node) (s t : State) → Proper n → Valid s → does n s ≡ 
 goes_valid n s t p ok q =
     let left : act n s ≡ leaves 0 t = node_effect n s ∙ ap (λ o. effect (leaving 0 o)) q in
     subst (λ (f : Effect). Valid (state_after f)) left (stays_valid n s p ok)
-
-all_split : {X : Type 0} (P : X → Type 0) (xs ys : List X) → AllByRecursion P (xs ++ ys) → AllByRecursion P xs × AllByRecursion P ys
-all_split P [] ys h = (tt, h)
-all_split P (x ∷ xs) ys h = let r = all_split P xs ys h.1 in ((h.0, r.0), r.1)
 
 -- the sets so far: nonempty once something was replaced
 pub record Numbers (replaced : Bool) (numbers : ℕ) : Type 0 where
@@ -90,7 +85,7 @@ branch_not_straight k e q = let never : ◌≡◌ {A = ℕ} 0 1 = cc in omega ar
 ending_not_straight : (k : Exits) → k ≡ exits.None → k ≢ exits.One
 ending_not_straight k e q = let never : ◌≡◌ {A = ℕ} 0 1 = cc in omega arith
 
-formed_after : (k : Exits) (way : ℕ) (done q : List Node) → AllByRecursion IsStraight done → Formed k way q → Formed k way (done ++ q)
+formed_after : (k : Exits) (way : ℕ) (done q : List Node) → Every IsStraight done → Formed k way q → Formed k way (done ++ q)
 formed_after k way done [] a h = absurd h
 formed_after k way done (n ∷ rest) a h = formed_behind k way done n rest a h
 
@@ -141,7 +136,7 @@ module _ {F : Type 0} {v : FactsOf F} {m : MovesOf F} (sound : MovesShow v m) (f
   pub record Good (c : Course F) (rest : List Node) : Type 0 where
     pub acts : (s : State) → Valid s → v.allows f₀ (state s) → leaving c.way (through (c.done ++ rest) s) ≡ leaving 0 (does n₀ s)
     pub formed : Formed (exits_of n₀) c.way (c.done ++ rest)
-    pub proper : AllByRecursion Proper (c.done ++ rest)
+    pub proper : Every Proper (c.done ++ rest)
     pub short : length (c.done ++ rest) ≤ 4
     pub reaches : (s t : State) → Valid s → v.allows f₀ (state s) → through (straights c.done) s ≡ goes t → Valid t × v.allows c.fact (state t)
     pub numbers : Numbers c.replaced c.numbers
@@ -152,7 +147,7 @@ module _ {F : Type 0} {v : FactsOf F} {m : MovesOf F} (sound : MovesShow v m) (f
       record {
         acts = λ s ok a. subst (λ q. leaving c.way (through q s) ≡ leaving 0 (does n₀ s)) one (h.acts s ok a);
         formed = subst (Formed (exits_of n₀) c.way) one h.formed;
-        proper = subst (AllByRecursion Proper) one h.proper;
+        proper = subst (Every Proper) one h.proper;
         short = subst (λ q. length q ≤ 4) one h.short;
         reaches = λ s t ok a e. past (exits_of n) refl s t ok a (sym (ap (λ q. through q s) (straights_append c.done (n ∷ []))) ∙ e);
         numbers = h.numbers;
@@ -161,7 +156,7 @@ module _ {F : Type 0} {v : FactsOf F} {m : MovesOf F} (sound : MovesShow v m) (f
       past : (k : Exits) → exits_of n ≡ k → (s t : State) → Valid s → v.allows f₀ (state s) → through (straights c.done ++ led_by k n []) s ≡ goes t → Valid t × v.allows (fact_past m k c.fact n) (state t)
       past exits.One e s t ok a q =
           let r = onward_goes (through (straights c.done) s) (through (n ∷ [])) t (sym (through_append (straights c.done) (n ∷ []) s) ∙ q) in
-          let proper = (all_split Proper c.done (n ∷ rest) h.proper).1.0 in
+          let proper = (every_split Proper c.done (n ∷ rest) h.proper).1.0 in
           let reached = h.reaches s r.0 ok a r.1 in
           let goes_on : does n r.0 ≡ goes t = sym (onward_stays (does n r.0)) ∙ r.2 in
           (goes_valid n r.0 t proper reached.0 goes_on, flowed sound c.fact n 0 proper r.0 t reached.0 reached.1 (ap (leaving 0) goes_on))
@@ -173,7 +168,7 @@ module _ {F : Type 0} {v : FactsOf F} {m : MovesOf F} (sound : MovesShow v m) (f
       → Good (taken_up n way numbers c) (row ++ rest)
   taken_good n rest c row way numbers h p fits =
       let form = formed_front (exits_of n₀) c.way c.done n rest h.formed in
-      let parts = all_split Proper c.done (n ∷ rest) h.proper in
+      let parts = every_split Proper c.done (n ∷ rest) h.proper in
       record {
         acts = λ s ok a.
             ap (leaving (way_after (exits_of n) c.way way)) (through_append c.done (row ++ rest) s)
@@ -182,13 +177,13 @@ module _ {F : Type 0} {v : FactsOf F} {m : MovesOf F} (sound : MovesShow v m) (f
             ∙ h.acts s ok a;
         formed = formed_after (exits_of n₀) (way_after (exits_of n) c.way way) c.done (row ++ rest) form.0
             (same_form (exits_of n₀) c.way n rest row way form.1 (exits_of n) refl p.0.formed);
-        proper = All-append Proper c.done (row ++ rest) parts.0 (All-append Proper row rest p.0.proper parts.1.1);
+        proper = every_append Proper c.done (row ++ rest) parts.0 (every_append Proper row rest p.0.proper parts.1.1);
         short = simp length-append (omega arith);
         reaches = h.reaches;
         numbers = union c.replaced c.numbers numbers h.numbers p.0.some p.0.known p.0.even;
       }
     where
-      run : AllByRecursion IsStraight c.done → FormedFrom (exits_of n₀) c.way n rest → (s : State) → Valid s → v.allows f₀ (state s) → (o : Outcome) → through c.done s ≡ o
+      run : Every IsStraight c.done → FormedFrom (exits_of n₀) c.way n rest → (s : State) → Valid s → v.allows f₀ (state s) → (o : Outcome) → through c.done s ≡ o
           → leaving (way_after (exits_of n) c.way way) (onward o (through (row ++ rest))) ≡ leaving c.way (onward o (through (n ∷ rest)))
       run straight form s ok a (goes u) e =
           let reached = h.reaches s u ok a (ap (λ q. through q s) (straights_all c.done straight) ∙ e) in
@@ -207,7 +202,7 @@ module _ {F : Type 0} {v : FactsOf F} {m : MovesOf F} (sound : MovesShow v m) (f
   unfolding looked
   looked_good zero n rest c h = kept_good n rest c h
   looked_good (suc levels) n rest c h =
-      try (looked_good levels) (m.proposal c.fact n) (offered sound c.fact n (all_split Proper c.done (n ∷ rest) h.proper).1.0)
+      try (looked_good levels) (m.proposal c.fact n) (offered sound c.fact n (every_split Proper c.done (n ∷ rest) h.proper).1.0)
     where
       choose : (row : List Node) (way numbers : ℕ) → Shows v c.fact n (instead row way numbers)
           → ((n : Node) (rest : List Node) (c : Course F) → Good c (n ∷ rest) → Good (looked m levels n (length rest) c) rest)
@@ -242,18 +237,18 @@ module _ {F : Type 0} {v : FactsOf F} {m : MovesOf F} (sound : MovesShow v m) (f
   pub course_good : Proper n₀ → Good (course m f₀ n₀) []
   course_good proper = looked_good depth_limit n₀ [] (begun f₀) (begun_good proper)
 
-last_proper : (n : Node) (rest : List Node) → AllByRecursion Proper (n ∷ rest) → Proper (last_of n rest)
+last_proper : (n : Node) (rest : List Node) → Every Proper (n ∷ rest) → Proper (last_of n rest)
 last_proper n [] h = h.0
 last_proper n (x ∷ rest) h = last_proper x rest h.1
 
-row_last_proper : (row : List Node) → AllByRecursion Proper row → Proper (last_of Skip row)
+row_last_proper : (row : List Node) → Every Proper row → Proper (last_of Skip row)
 row_last_proper [] h = refl
 row_last_proper (n ∷ rest) h = last_proper n rest h
 
 module _ {F : Type 0} {v : FactsOf F} {m : MovesOf F} (sound : MovesShow v m) where
   -- the fact for an exit, by the kind of the row's last node
   exit_good : (f₀ : F) (c : Course F) (K : Exits) (s t : State) (e : ℕ) → Valid s → v.allows f₀ (state s)
-      → Formed K c.way c.done → AllByRecursion Proper c.done
+      → Formed K c.way c.done → Every Proper c.done
       → ((t : State) → through (straights c.done) s ≡ goes t → Valid t × v.allows c.fact (state t))
       → leaving c.way (through c.done s) ≡ turns e t
       → v.allows (fact_by m v (exits_of (last_of Skip c.done)) c e) (state t)
@@ -283,7 +278,7 @@ module _ {F : Type 0} {v : FactsOf F} {m : MovesOf F} (sound : MovesShow v m) wh
       no_exit n k (turns x u) q l = absurd q
       no_exit n k (stops z u) q l = stops_not_turns z e u t l
 
-      by_kind : (n : Node) (rest : List Node) → FormedFrom K c.way n rest → AllByRecursion Proper (n ∷ rest)
+      by_kind : (n : Node) (rest : List Node) → FormedFrom K c.way n rest → Every Proper (n ∷ rest)
           → ((t : State) → through (straights (n ∷ rest)) s ≡ goes t → Valid t × v.allows c.fact (state t))
           → leaving c.way (through (n ∷ rest) s) ≡ turns e t
           → (k : Exits) → exits_of (last_of n rest) ≡ k → v.allows (fact_by m v k (with_done (n ∷ rest)) e) (state t)
@@ -297,7 +292,7 @@ module _ {F : Type 0} {v : FactsOf F} {m : MovesOf F} (sound : MovesShow v m) wh
           no_exit (last_of n rest) k (through (straights (n ∷ rest)) s) (row_no_turn (straights (n ∷ rest)) s (straights_straight (n ∷ rest)))
           (sym (ap (leaving c.way) (last_other K c.way n rest s f (ending_not_straight (exits_of (last_of n rest)) k))) ∙ l)
 
-      at_row : (d : List Node) → Formed K c.way d → AllByRecursion Proper d
+      at_row : (d : List Node) → Formed K c.way d → Every Proper d
           → ((t : State) → through (straights d) s ≡ goes t → Valid t × v.allows c.fact (state t))
           → leaving c.way (through d s) ≡ turns e t
           → v.allows (fact_by m v (exits_of (last_of Skip d)) (with_done d) e) (state t)
@@ -305,8 +300,8 @@ module _ {F : Type 0} {v : FactsOf F} {m : MovesOf F} (sound : MovesShow v m) wh
       at_row (n ∷ rest) f p r l = by_kind n rest f p r l (exits_of (last_of n rest)) refl
 
   -- the finished row has the form for the node, and acts as it
-  pub done_proper : (f : F) (n : Node) → Proper n → AllByRecursion Proper (course m f n).done
-  done_proper f n h = subst (AllByRecursion Proper) (append-nil (course m f n).done) (course_good sound f n h).proper
+  pub done_proper : (f : F) (n : Node) → Proper n → Every Proper (course m f n).done
+  done_proper f n h = subst (Every Proper) (append-nil (course m f n).done) (course_good sound f n h).proper
 
   pub done_last_proper : (f : F) (n : Node) → Proper n → Proper (last_of Skip (course m f n).done)
   done_last_proper f n h = row_last_proper (course m f n).done (done_proper f n h)
@@ -330,7 +325,7 @@ module _ {F : Type 0} {v : FactsOf F} {m : MovesOf F} (sound : MovesShow v m) wh
           let form = subst (Formed (exits_of n) c.way) nil g.formed in (
             for_row n c.done c.way c.numbers (record {
               formed = form;
-              proper = subst (AllByRecursion Proper) nil g.proper;
+              proper = subst (Every Proper) nil g.proper;
               short = subst (λ q. length q ≤ 4) nil g.short;
               some = g.numbers.some e;
               known = g.numbers.known;

@@ -1,12 +1,12 @@
 -- Deep of an analysis, as a value: a row is rewritten from the left, by the proposals for its entries.
-use Rattle.std.specs.Prelude.{ℕ, zero, suc, ◌+◌, Bool, true, false, cond, List, [], ◌∷◌, ◌++◌, length, take, ◌==◌, bit_or, nat_le}
+use Rattle.std.specs.Prelude.{ℕ, zero, suc, ◌+◌, Bool, true, false, cond, List, [], ◌∷◌, ◌++◌, length, ◌==◌, bit_or, nat_le}
 use Rattle.machine.specs.declared.node.Exits.{Exits}
 use Rattle.machine.specs.declared.node.Exits.TheVariants as exits
 use Rattle.machine.specs.declared.node.Node.{Node}
 use Rattle.machine.specs.declared.node.Node.TheVariants.{Skip}
 use Rattle.machine.specs.WellFormed.{exits_of}
 use Rattle.analysis.specs.declared.deep.Walk.{Walk}
-use Rattle.analysis.specs.Analyses.{MovesOf, Proposed, absent, instead}
+use Rattle.analysis.specs.Analyses.{MovesOf, Proposed, absent, instead, nodes_of}
 use Rattle.analysis.specs.Facts.{FactsOf}
 use Rattle.analysis.specs.Rows.{row_limit}
 
@@ -102,4 +102,4 @@ module _ {Fact : Type 0} (m : MovesOf Fact) where
 
 -- what a walk in the program's hands says
 abbrev pub course_of : {Fact : Type 0} → Walk Fact → Course Fact
-course_of w = record { fact = w.fact; done = take w.len w.row; way = w.way; numbers = w.set; replaced = w.replaced }
+course_of w = record { fact = w.fact; done = nodes_of w.row; way = w.way; numbers = w.set; replaced = w.replaced }

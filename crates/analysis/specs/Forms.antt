@@ -1,12 +1,12 @@
 -- The form of a row, part by part.
 use Rattle.std.specs.Prelude.{◌≡◌, ℕ, ◌%◌, ◌^◌, ◌<◌, ◌≤◌, true, ◌&&◌, List, [], ◌∷◌, length, ◌==◌, nat_le, nat_lt, refl}
 use Rattle.std.proofs.Common.{ap, arith}
-use Rattle.std.specs.List.{AllByRecursion}
 use Rattle.std.proofs.lemmas.Bool.{and_parts, and_from, eqb-true, eq-eqb, ltb-true, lt-ltb, leb-true, le-leb}
 use Rattle.machine.specs.declared.node.Exits.{Exits}
 use Rattle.machine.specs.declared.node.Exits.TheVariants as exits
 use Rattle.machine.specs.declared.node.Node.{Node}
 use Rattle.machine.specs.WellFormed.{is_node, exits_of}
+use Rattle.machine.specs.Every.{Every}
 use Rattle.analysis.specs.Rows.{last_fits, is_straight, row_fits, set_fits, row_limit, is_proposal}
 
 abbrev pub Proper : Node → Type 0
@@ -26,7 +26,7 @@ Formed x way (m ∷ rest) = FormedFrom x way m rest
 
 pub record RowFor (n : Node) (row : List Node) (way numbers : ℕ) : Type 0 where
   pub formed : Formed (exits_of n) way row
-  pub proper : AllByRecursion Proper row
+  pub proper : Every Proper row
   pub short : length row ≤ 4
   pub some : 0 < numbers
   pub known : numbers < 2 ^ 16
@@ -37,7 +37,7 @@ straight_is exits.None q = absurd (let z : ◌≡◌ {A = ℕ} 0 1 = cc in omega
 straight_is exits.One q = refl
 straight_is exits.Two q = absurd (let z : ◌≡◌ {A = ℕ} 0 1 = cc in omega arith)
 
-fits_formed : (x : Exits) (way : ℕ) (row : List Node) → row_fits x way row ≡ true → Formed x way row × AllByRecursion Proper row
+fits_formed : (x : Exits) (way : ℕ) (row : List Node) → row_fits x way row ≡ true → Formed x way row × Every Proper row
 fits_formed x way [] q = absurd (let z : ◌≡◌ {A = ℕ} 0 1 = cc in omega arith)
 fits_formed x way (n ∷ []) q = let p = and_parts (is_node n) (last_fits x (exits_of n) way) q in (p.1, (p.0, tt))
 fits_formed x way (n ∷ m ∷ ns) q =
@@ -46,7 +46,7 @@ fits_formed x way (n ∷ m ∷ ns) q =
     let rest = fits_formed x way (m ∷ ns) r.1 in
     ((straight_is (exits_of n) r.0, rest.0), (p.0, rest.1))
 
-formed_fits : (x : Exits) (way : ℕ) (row : List Node) → Formed x way row → AllByRecursion Proper row → row_fits x way row ≡ true
+formed_fits : (x : Exits) (way : ℕ) (row : List Node) → Formed x way row → Every Proper row → row_fits x way row ≡ true
 formed_fits x way [] f p = absurd f
 formed_fits x way (n ∷ []) f p = and_from (is_node n) (last_fits x (exits_of n) way) p.0 f
 formed_fits x way (n ∷ m ∷ ns) f p =

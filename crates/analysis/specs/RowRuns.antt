@@ -1,7 +1,6 @@
 -- Rows of nodes: how they run, and the form that they have.
 use Rattle.std.specs.Prelude.{◌≡◌, ℕ, zero, suc, List, [], ◌∷◌, ◌++◌, ◌≢◌, refl}
 use Rattle.std.proofs.Common.{sym, ap, subst, ◌∙◌, arith}
-use Rattle.std.specs.List.{AllByRecursion}
 use Rattle.std.proofs.lemmas.Bool.{eqb-true}
 use Rattle.machine.specs.declared.node.Exits.{Exits}
 use Rattle.machine.specs.declared.node.Exits.TheVariants as exits
@@ -10,6 +9,7 @@ use Rattle.machine.specs.declared.outcome.Ending.{Ending}
 use Rattle.machine.specs.State.{State}
 use Rattle.machine.specs.Step.{Effect, leaves, ends, act}
 use Rattle.machine.specs.WellFormed.{exits_of}
+use Rattle.machine.specs.Every.{Every}
 use Rattle.analysis.specs.Deeps.{last_of}
 use Rattle.analysis.specs.Rows.{onwards, run_row}
 use Rattle.analysis.specs.Forms.{Last, FormedFrom, Formed}
@@ -100,7 +100,7 @@ through_append (n ∷ r) q s = onward_onward (does n s) (through (r ++ q)) (thro
 abbrev pub IsStraight : Node → Type 0
 IsStraight n = exits_of n ≡ exits.One
 
-pub row_no_turn : (r : List Node) (s : State) → AllByRecursion IsStraight r → NoTurn (through r s)
+pub row_no_turn : (r : List Node) (s : State) → Every IsStraight r → NoTurn (through r s)
 row_no_turn [] s h = tt
 row_no_turn (n ∷ r) s h = go (does n s) (straight_no_turn n s h.0) (λ t. row_no_turn r t h.1)
   where
@@ -128,15 +128,15 @@ straights_append (n ∷ r) q = go (exits_of n) (straights_append r q)
     go exits.Two e = e
     go exits.None e = e
 
-pub straights_all : (r : List Node) → AllByRecursion IsStraight r → straights r ≡ r
+pub straights_all : (r : List Node) → Every IsStraight r → straights r ≡ r
 straights_all [] h = refl
 straights_all (n ∷ r) h = ap (λ k. led_by k n (straights r)) h.0 ∙ ap (λ x. n ∷ x) (straights_all r h.1)
 
-pub straights_straight : (r : List Node) → AllByRecursion IsStraight (straights r)
+pub straights_straight : (r : List Node) → Every IsStraight (straights r)
 straights_straight [] = tt
 straights_straight (n ∷ r) = go (exits_of n) refl (straights_straight r)
   where
-    go : (k : Exits) → exits_of n ≡ k → AllByRecursion IsStraight (straights r) → AllByRecursion IsStraight (led_by k n (straights r))
+    go : (k : Exits) → exits_of n ≡ k → Every IsStraight (straights r) → Every IsStraight (led_by k n (straights r))
     go exits.One e h = (e, h)
     go exits.Two e h = h
     go exits.None e h = h
@@ -144,24 +144,24 @@ straights_straight (n ∷ r) = go (exits_of n) refl (straights_straight r)
 -- ---- the form of a row
 
 -- what stands before an entry is straight
-pub formed_front : (k : Exits) (way : ℕ) (done : List Node) (n : Node) (rest : List Node) → Formed k way (done ++ (n ∷ rest)) → AllByRecursion IsStraight done × FormedFrom k way n rest
+pub formed_front : (k : Exits) (way : ℕ) (done : List Node) (n : Node) (rest : List Node) → Formed k way (done ++ (n ∷ rest)) → Every IsStraight done × FormedFrom k way n rest
 formed_front k way [] n rest h = (tt, h)
 formed_front k way (d ∷ done) n rest h = go d done h
   where
-    go : (d : Node) (ds : List Node) → FormedFrom k way d (ds ++ (n ∷ rest)) → (IsStraight d × AllByRecursion IsStraight ds) × FormedFrom k way n rest
+    go : (d : Node) (ds : List Node) → FormedFrom k way d (ds ++ (n ∷ rest)) → (IsStraight d × Every IsStraight ds) × FormedFrom k way n rest
     go d [] h = ((h.0, tt), h.1)
     go d (x ∷ ds) h = let r = go x ds h.1 in ((h.0, r.0), r.1)
 
-pub formed_behind : (k : Exits) (way : ℕ) (done : List Node) (n : Node) (rest : List Node) → AllByRecursion IsStraight done → FormedFrom k way n rest → Formed k way (done ++ (n ∷ rest))
+pub formed_behind : (k : Exits) (way : ℕ) (done : List Node) (n : Node) (rest : List Node) → Every IsStraight done → FormedFrom k way n rest → Formed k way (done ++ (n ∷ rest))
 formed_behind k way [] n rest a h = h
 formed_behind k way (d ∷ done) n rest a h = go d done a
   where
-    go : (d : Node) (ds : List Node) → IsStraight d × AllByRecursion IsStraight ds → FormedFrom k way d (ds ++ (n ∷ rest))
+    go : (d : Node) (ds : List Node) → IsStraight d × Every IsStraight ds → FormedFrom k way d (ds ++ (n ∷ rest))
     go d [] a = (a.0, h)
     go d (x ∷ ds) a = (a.0, go x ds a.1)
 
 -- a row for a straight node is straight, way 0
-pub straight_row : (way : ℕ) (row : List Node) → Formed exits.One way row → AllByRecursion IsStraight row × (way ≡ 0)
+pub straight_row : (way : ℕ) (row : List Node) → Formed exits.One way row → Every IsStraight row × (way ≡ 0)
 straight_row way [] h = absurd h
 straight_row way (n ∷ row) h = go n row h
   where
@@ -170,7 +170,7 @@ straight_row way (n ∷ row) h = go n row h
     only m exits.Two e h = absurd (let never : ◌≡◌ {A = ℕ} 0 1 = cc in omega arith)
     only m exits.None e h = absurd (let never : ◌≡◌ {A = ℕ} 0 1 = cc in omega arith)
 
-    go : (m : Node) (ms : List Node) → FormedFrom exits.One way m ms → (IsStraight m × AllByRecursion IsStraight ms) × (way ≡ 0)
+    go : (m : Node) (ms : List Node) → FormedFrom exits.One way m ms → (IsStraight m × Every IsStraight ms) × (way ≡ 0)
     go m [] h = let o = only m (exits_of m) refl h in ((o.0, tt), o.1)
     go m (x ∷ ms) h = let r = go x ms h.1 in ((h.0, r.0), r.1)
 
@@ -203,7 +203,7 @@ formed_straight k way (r ∷ row) n rest f e h = go r row f
 -- ---- the last node of a row
 
 -- a row that ends straight is straight throughout
-pub last_straight : (k : Exits) (way : ℕ) (n : Node) (rest : List Node) → FormedFrom k way n rest → IsStraight (last_of n rest) → AllByRecursion IsStraight (n ∷ rest)
+pub last_straight : (k : Exits) (way : ℕ) (n : Node) (rest : List Node) → FormedFrom k way n rest → IsStraight (last_of n rest) → Every IsStraight (n ∷ rest)
 last_straight k way n [] h e = (e, tt)
 last_straight k way n (x ∷ rest) h e = (h.0, last_straight k way x rest h.1 e)
 

@@ -1,7 +1,7 @@
 // The interface of an analysis.
 ghost use Rattle.std.specs.Prelude.{◌≡◌, true, ◌==◌};
 ghost use Rattle.machine.specs.WellFormed.{is_node};
-ghost use Rattle.analysis.specs.Analyses.{MovesOf, MovesShow, StartShows, FlowShows, ProposalShows, meant, Filled};
+ghost use Rattle.analysis.specs.Analyses.{MovesOf, MovesShow, StartShows, FlowShows, ProposalShows, meant};
 ghost use Rattle.analysis.specs.Facts.{FactsOf, FactsShow};
 
 use crate::proposal::Proposal;
@@ -36,16 +36,16 @@ pub trait Analysis: Facts {
         ensures exact { result ≡ (moves self.now).start }
         ensures shows { StartShows (Self.Facts.facts self.now) result };
 
+    // Any number may be asked for: an enum of the two exits would ask more of a caller.
     /// What holds where the node is left by the exit.
     fn flow(&self, fact: &Self::Fact, node: Node, exit: u8) -> Self::Fact
         requires { is_node node ≡ true }
         ensures exact { result ≡ (moves self.now).flow fact.now node exit }
         ensures shows { FlowShows (Self.Facts.facts self.now) fact.now node exit result };
 
-    /// What may stand for the node where the fact holds.
-    fn propose(&self, fact: &Self::Fact, node: Node) -> Proposal
+    /// What may stand for the node where the fact holds, if anything is proposed.
+    fn propose(&self, fact: &Self::Fact, node: Node) -> Option<Proposal>
         requires { is_node node ≡ true }
-        ensures filled { Filled result }
         ensures exact { meant result ≡ (moves self.now).proposal fact.now node }
         ensures shows { ProposalShows (Self.Facts.facts self.now) fact.now node (meant result) };
 

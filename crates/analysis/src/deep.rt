@@ -3,14 +3,14 @@ ghost use Rattle.std.specs.Prelude.{◌≡◌, ◌+◌, ◌-◌, ◌<◌, ◌≤
 ghost use Rattle.machine.specs.declared.node.Node.TheVariants.{Skip};
 ghost use Rattle.machine.specs.WellFormed.{is_node, exits_of};
 ghost use Rattle.machine.specs.declared.node.Node.{Node};
-ghost use Rattle.analysis.specs.Analyses.{MovesShow};
+ghost use Rattle.analysis.specs.Analyses.{MovesShow, nodes_of};
 ghost use Rattle.analysis.specs.Facts.{FactsShow};
 ghost use Rattle.analysis.specs.Deeps.{course_of, taken_up, kept, fact_past, looked, course, deep_moves, fact_at, last_of};
 ghost use Rattle.analysis.specs.Turns.{Turns, begins_at, ends_at};
 ghost use Rattle.analysis.specs.DeepLaws.{deep_sound};
 
 use crate::analysis::{Analysis, Facts};
-use crate::proposal::{Proposal, ROW_LIMIT};
+use crate::proposal::{Proposal, ROW_LIMIT, Row};
 use machine::node::{Exits, Node};
 
 /// Entries are replaced at depths below this.
@@ -21,12 +21,12 @@ pub struct Deep<A> {
     pub inner: A,
 }
 
-/// How far the rewriting of a row has come: the first `len` nodes of `row` are finished, and `fact` holds behind them.
+/// How far the rewriting of a row has come: the nodes of `row` are finished, and `fact` holds behind them.
+// Way and set say something where nothing is replaced: way 0, and no analysis.
 #[derive(Clone, Copy)]
 pub struct Walk<F> {
     fact: F,
-    row: [Node; ROW_LIMIT],
-    len: usize,
+    row: Row,
     way: u8,
     set: u16,
     replaced: bool,
@@ -35,7 +35,7 @@ pub struct Walk<F> {
 /// The proposal's way, if the node is a branch, and its set become the walk's.
 fn take_up<F>(walk: &mut Walk<F>, node: Node, proposal: &Proposal)
     ensures course { course_of walk.new ≡ taken_up node proposal.now.way proposal.now.set (course_of walk.old) }
-    ensures len { walk.new.len ≡ walk.old.len }
+    ensures row { walk.new.row ≡ walk.old.row }
 {
     if let Exits::Two = node.exits() {
         walk.way = proposal.way;
@@ -58,38 +58,32 @@ fn past<A: Analysis>(a: &A, fact: &A::Fact, node: Node) -> A::Fact
 /// The entry stays.
 fn keep<A: Analysis>(a: &A, walk: &mut Walk<A::Fact>, node: Node)
     requires proper { is_node node ≡ true }
-    requires room { walk.old.len < 4 }
-    ensures course { course_of walk.new ≡ kept (A.Analysis.moves a.now) node (course_of walk.old) }
-    ensures len { walk.new.len ≡ walk.old.len + 1 }
-    ensures full { length walk.old.row ≡ 4 }
+    requires room { length (nodes_of walk.old.row) < 4 }
+    ensures { course_of walk.new ≡ kept (A.Analysis.moves a.now) node (course_of walk.old) }
 {
     walk.fact = past(a, &walk.fact, node);
-    walk.row[walk.len] = node;
-    walk.len += 1;
+    walk.row.push(node);
 }
 
 /// Looks at an entry, with so many others waiting behind it: the nodes that A proposes take its place and are looked at in turn, or it stays.
 fn look<A: Analysis>(a: &A, walk: &mut Walk<A::Fact>, node: Node, depth: u8, waiting: usize)
     requires proper { is_node node ≡ true }
     requires depth { depth ≤ 3 }
-    requires room { walk.old.len + waiting < 4 }
+    requires room { length (nodes_of walk.old.row) + waiting < 4 }
     ensures course { course_of walk.new ≡ looked (A.Analysis.moves a.now) (3 - depth) node waiting (course_of walk.old) }
-    ensures room { walk.new.len + waiting ≤ 4 }
+    ensures room { length (nodes_of walk.new.row) + waiting ≤ 4 }
 {
     if depth < DEPTH_LIMIT {
-        let proposal = a.propose(&walk.fact, node);
-        if proposal.present && walk.len + proposal.len + waiting <= ROW_LIMIT {
-            take_up(walk, node, &proposal);
-            for i in 0..proposal.len {
-                look(
-                    a,
-                    walk,
-                    proposal.row[i],
-                    depth + 1,
-                    proposal.len - i - 1 + waiting,
-                );
+        if let Some(proposal) = a.propose(&walk.fact, node) {
+            let mut row = proposal.row.as_slice();
+            if walk.row.as_slice().len() + row.len() + waiting <= ROW_LIMIT {
+                take_up(walk, node, &proposal);
+                while let Some((entry, rest)) = row.split_first() {
+                    look(a, walk, *entry, depth + 1, rest.len() + waiting);
+                    row = rest;
+                }
+                return;
             }
-            return;
         }
     }
     keep(a, walk, node);
@@ -100,12 +94,10 @@ fn follow<A: Analysis>(a: &A, fact: &A::Fact, node: Node) -> Walk<A::Fact>
     requires { is_node node ≡ true }
     ensures course { course_of result ≡ course (A.Analysis.moves a.now) fact.now node }
     ensures turns { Turns (A.Analysis.moves a.now) (begins_at fact.now node) (ends_at (course_of result)) }
-    ensures room { result.len ≤ 4 }
 {
     let mut walk = Walk {
         fact: *fact,
-        row: [Node::Skip; ROW_LIMIT],
-        len: 0,
+        row: Row::empty(),
         way: 0,
         set: 0,
         replaced: false,
@@ -116,22 +108,14 @@ fn follow<A: Analysis>(a: &A, fact: &A::Fact, node: Node) -> Walk<A::Fact>
 
 /// The last finished node.
 fn last<F>(walk: &Walk<F>) -> Node
-    requires room { walk.now.len ≤ 4 }
-    requires full { length walk.now.row ≡ 4 }
     ensures { result ≡ last_of Skip (course_of walk.now).done }
 {
-    if walk.len == 0 {
-        Node::Skip
-    } else {
-        walk.row[walk.len - 1]
-    }
+    walk.row.as_slice().last().copied().unwrap_or(Node::Skip)
 }
 
 /// The fact at the row's end for its way, or the flow over a last branch; nowhere for an exit not taken.
 fn at_exit<A: Analysis>(a: &A, walk: &Walk<A::Fact>, exit: u8) -> A::Fact
-    requires room { walk.now.len ≤ 4 }
-    requires full { length walk.now.row ≡ 4 }
-    requires proper { is_node (last_of Skip (course_of walk.now).done) ≡ true }
+    requires { is_node (last_of Skip (course_of walk.now).done) ≡ true }
     ensures { result ≡ fact_at (A.Analysis.moves a.now) (A.Facts.facts a.now) (course_of walk.now) exit }
 {
     let last = last(walk);
@@ -161,6 +145,7 @@ impl<A: Analysis> Deep<A> {
     }
 }
 
+// The facts are those of the part, and an impl has to pass its calls on.
 impl<A: Facts> Facts for Deep<A> {
     type Fact = A::Fact;
 
@@ -195,14 +180,12 @@ impl<A: Analysis> Analysis for Deep<A> {
         at_exit(&self.inner, &walk, exit)
     }
 
-    fn propose(&self, fact: &A::Fact, node: Node) -> Proposal {
+    fn propose(&self, fact: &A::Fact, node: Node) -> Option<Proposal> {
         let walk = follow(&self.inner, fact, node);
-        Proposal {
-            present: walk.replaced,
+        walk.replaced.then_some(Proposal {
             row: walk.row,
-            len: walk.len,
             way: walk.way,
             set: walk.set,
-        }
+        })
     }
 }

@@ -33,6 +33,7 @@ impl<A: Analysis, B: Analysis> Pair<A, B> {
     }
 }
 
+// Each method asks both parts: an impl for a type made of others has to pass its calls on.
 impl<A: Facts, B: Facts> Facts for Pair<A, B> {
     type Fact = PairFact<A::Fact, B::Fact>;
 
@@ -98,12 +99,9 @@ impl<A: Analysis, B: Analysis> Analysis for Pair<A, B> {
         }
     }
 
-    fn propose(&self, fact: &PairFact<A::Fact, B::Fact>, node: Node) -> Proposal {
-        let proposal = self.first.propose(&fact.first, node);
-        if proposal.present {
-            proposal
-        } else {
-            self.second.propose(&fact.second, node)
-        }
+    fn propose(&self, fact: &PairFact<A::Fact, B::Fact>, node: Node) -> Option<Proposal> {
+        self.first
+            .propose(&fact.first, node)
+            .or_else(|| self.second.propose(&fact.second, node))
     }
 }

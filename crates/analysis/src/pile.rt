@@ -8,6 +8,7 @@ use crate::analysis::{Analysis, Facts};
 use crate::proposal::Proposal;
 use machine::node::Node;
 
+// The body is empty, as that of every other function that is there for its contract alone.
 /// Does nothing: its contract is that a pile, whatever it is, shows all that is asked of an analysis.
 pub fn shows_all<P: Analysis>(pile: &P)
     ensures facts { FactsShow (P.Facts.facts pile.now) }
@@ -17,11 +18,11 @@ pub fn shows_all<P: Analysis>(pile: &P)
 }
 
 /// What a pile proposes where a run starts; nothing for what is no node of the machine.
-pub fn proposal_at_start<P: Analysis>(pile: &P, node: Node) -> Proposal
+pub fn proposal_at_start<P: Analysis>(pile: &P, node: Node) -> Option<Proposal>
     ensures { meant result ≡ (if is_node node then (P.Analysis.moves pile.now).proposal (P.Analysis.moves pile.now).start node else absent) }
 {
     if !node.is_sound() {
-        return Proposal::ABSENT;
+        return None;
     }
     let start = pile.start();
     pile.propose(&start, node)

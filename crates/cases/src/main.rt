@@ -3,6 +3,7 @@
 
 mod accepted;
 mod case;
+mod made;
 mod numbered;
 mod prints;
 mod refused;
@@ -13,12 +14,13 @@ mod stretched;
 mod texts;
 
 use crate::accepted::ACCEPTED;
-use crate::numbered::try_numbered;
+use crate::made::try_made;
+use crate::numbered::NUMBERED;
 use crate::prints::try_prints;
 use crate::refused::try_refused;
 use crate::runs::try_runs;
 use crate::starred::starred_cases;
-use crate::stretched::try_stretched;
+use crate::stretched::STRETCHED;
 use crate::texts::try_texts;
 use session::session::Session;
 use std::io;
@@ -29,8 +31,8 @@ fn main(rt: HostRuntime) -> io::Result<()> {
     try_refused(&rt, &mut session)?;
     try_texts(&rt, &mut session, &ACCEPTED)?;
     try_runs(&rt, &mut session)?;
-    try_stretched(&rt, &mut session)?;
-    try_numbered(&rt, &mut session)?;
+    try_made(&rt, &mut session, &STRETCHED)?;
+    try_made(&rt, &mut session, &NUMBERED)?;
     let nodes = session.close();
     starred_cases();
     println!(rt; "closed with {nodes} nodes")

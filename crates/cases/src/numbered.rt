@@ -1,20 +1,22 @@
 // Texts of many nodes.
-use crate::texts::try_text;
-use session::session::Session;
+use crate::made::Made;
 use std::alloc::{AllocError, Global};
-use std::io;
 
 /// The lines of `nodes` nodes, with the same words after each label, and what follows them.
 #[derive(Clone, Copy)]
-struct Numbered {
+pub(crate) struct Numbered {
     name: &'static str,
     words: &'static str,
     nodes: u8,
     after: &'static str,
 }
 
-impl Numbered {
-    fn text(&self, heap: Global) -> Result<String, AllocError> {
+impl Made for Numbered {
+    fn name(&self) -> &'static str {
+        self.name
+    }
+
+    fn text(&self, heap: Global) -> Result<Vec<u8>, AllocError> {
         let words = self.words;
         let mut text = String::new(heap);
         for label in 0..self.nodes {
@@ -22,11 +24,11 @@ impl Numbered {
             text.push_str(line.as_str())?;
         }
         text.push_str(self.after)?;
-        Ok(text)
+        Ok(text.into_bytes())
     }
 }
 
-static NUMBERED: [Numbered; 17] = [
+pub(crate) static NUMBERED: [Numbered; 17] = [
     Numbered {
         name: "200 nodes",
         words: "skip -> 199",
@@ -130,14 +132,3 @@ static NUMBERED: [Numbered; 17] = [
         after: "199: br r8 -> 0\nend 200 from 0\n",
     },
 ];
-
-pub(crate) fn try_numbered(
-    rt: &(impl Print + AllocGlobal),
-    session: &mut Session,
-) -> io::Result<()> {
-    for case in &NUMBERED {
-        let text = case.text(rt.alloc())?;
-        try_text(rt, session, case.name, text.as_bytes())?;
-    }
-    Ok(())
-}

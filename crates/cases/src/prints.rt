@@ -14,11 +14,14 @@ fn try_print(rt: &(impl Print + AllocGlobal), session: &Session, room: usize) ->
         Ok(len) => println!(rt; "print into {room}: {len} bytes, buffer \"{bytes}\""),
         Err(refusal) => {
             let number = refusal.number();
-            let due = match refusal {
-                Refusal::ShortBuffer { due } => due,
-                _ => 0,
-            };
-            println!(rt; "print into {room}: refused {number}, {due} bytes due, buffer \"{bytes}\"")
+            match refusal {
+                Refusal::ShortBuffer { due } => {
+                    println!(rt;
+                        "print into {room}: refused {number}, {due} bytes due, buffer \"{bytes}\""
+                    )
+                }
+                _ => println!(rt; "print into {room}: refused {number}"),
+            }
         }
     }
 }

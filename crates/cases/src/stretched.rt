@@ -1,11 +1,9 @@
 // Texts with one byte many times over.
-use crate::texts::try_text;
-use session::session::Session;
+use crate::made::Made;
 use std::alloc::{AllocError, Global};
-use std::io;
 
 #[derive(Clone, Copy)]
-struct Stretched {
+pub(crate) struct Stretched {
     name: &'static str,
     before: &'static [u8],
     byte: u8,
@@ -13,7 +11,11 @@ struct Stretched {
     after: &'static [u8],
 }
 
-impl Stretched {
+impl Made for Stretched {
+    fn name(&self) -> &'static str {
+        self.name
+    }
+
     fn text(&self, heap: Global) -> Result<Vec<u8>, AllocError> {
         let mut text = Vec::from_slice(heap, self.before)?;
         for _ in 0..self.times {
@@ -24,7 +26,7 @@ impl Stretched {
     }
 }
 
-static STRETCHED: [Stretched; 15] = [
+pub(crate) static STRETCHED: [Stretched; 15] = [
     Stretched {
         name: "number of 300 digits",
         before: b"0: mov r0 #",
@@ -131,14 +133,3 @@ static STRETCHED: [Stretched; 15] = [
         after: b"",
     },
 ];
-
-pub(crate) fn try_stretched(
-    rt: &(impl Print + AllocGlobal),
-    session: &mut Session,
-) -> io::Result<()> {
-    for case in &STRETCHED {
-        let text = case.text(rt.alloc())?;
-        try_text(rt, session, case.name, text.as_slice())?;
-    }
-    Ok(())
-}

@@ -10,15 +10,9 @@ use text::refusal::TextRefusal;
 
 fn prints_as(session: &Session, text: &[u8]) -> bool {
     let mut out = [0u8; TEXT_LIMIT];
-    match session.print(&mut out) {
-        Ok(len) => {
-            match out.get(0..len) {
-                Some(printed) => printed == text,
-                None => false,
-            }
-        }
-        Err(_) => false,
-    }
+    session
+        .print(&mut out)
+        .is_ok_and(|len| out.get(..len) == Some(text))
 }
 
 /// Tells whether the session's program is printed as this text.
@@ -41,15 +35,12 @@ pub(crate) fn show_held(
 }
 
 fn show_refusal(rt: &impl Print, name: &str, text: &[u8], refusal: TextRefusal) -> io::Result<()> {
-    let number = refusal.cause.number();
-    let line = refusal.line;
-    let word = refusal.word;
-    let part = refused_word(text, line, word);
+    let part = refused_word(text, refusal.line, refusal.word);
     if part.is_empty() {
-        println!(rt; "{name}: refused {number} line {line} word {word}")
+        println!(rt; "{name}: {refusal}")
     } else {
         let part = Shown(part);
-        println!(rt; "{name}: refused {number} line {line} word {word}: {part}")
+        println!(rt; "{name}: {refusal}: {part}")
     }
 }
 

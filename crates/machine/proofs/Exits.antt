@@ -1,5 +1,5 @@
 -- The exits that a node leaves by, and that those of a sound entry lead into the program.
-use Rattle.std.proofs.Common.{◌≡◌, ℕ, ◌<◌, Bool, true, false, cond, eqb, ◌⊎◌, List, [], ◌∷◌, get_or, Some, None, Option, inl, inr, arith}
+use Rattle.std.proofs.Common.{◌≡◌, ℕ, ◌<◌, Bool, true, false, cond, eqb, ◌⊎◌, List, [], ◌∷◌, get_or, Some, None, Option, inl, inr}
 use Rattle.std.proofs.lemmas.Bool.{and_parts, ltb-true}
 use Rattle.machine.specs.declared.node.Node.{Node}
 use Rattle.machine.specs.declared.node.Node.TheVariants.{Mov, Binary, In, Out, Ld, St, Br, Skip, Halt, Fail}
@@ -35,8 +35,8 @@ leaves_has (Ld to cell) s t e acts = cc
 leaves_has (St cell from) s t e acts = cc
 leaves_has (Br on) s t e acts = by_branch s t e (eqb (value s.regs on) 0) acts
 leaves_has Skip s t e acts = cc
-leaves_has Halt s t e acts = let never : ◌≡◌ {A = ℕ} 0 1 = cc in omega arith
-leaves_has (Fail fault) s t e acts = let never : ◌≡◌ {A = ℕ} 0 1 = cc in omega arith
+leaves_has Halt s t e acts = cc
+leaves_has (Fail fault) s t e acts = cc
 
 -- the exits that there are lead into the program
 pub leads_has : (count : ℕ) (x : Exits) (targets : List ℕ) (e : ℕ) → leads count x targets ≡ true → Has x e → get_or targets e 0 < count

@@ -3,7 +3,6 @@ pub mod Exits
 pub mod Tables
 pub mod Held
 pub mod Validity
-pub mod Acts
 pub mod Running
 pub mod Agreement
 pub mod Simulation

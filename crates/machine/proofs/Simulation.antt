@@ -113,7 +113,7 @@ endings_last : (p : Prog) (k : Ending) (cells' : List ℕ) (read whole : ℕ) �
 endings_last p k cells' read whole = record { on = λ c h. (h.0, ap (step p) h.1, h.2, h.3); seen = seen }
   where
     seen : (c d : Config) → Alike c d → Over k cells' read whole c → Over k cells' read whole d
-    seen (running i s) d a h = let never : ◌≡◌ {A = ℕ} 0 1 = cc h.1 in absurd (omega arith)
+    seen (running i s) d a h = cc h.1
     seen (ended l s) (running i t) a h = absurd a
     seen (ended l s) (ended m t) a h = (t, cc, cc, cc)
 

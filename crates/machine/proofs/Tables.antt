@@ -1,9 +1,11 @@
 -- Writing an entry of a table keeps every entry sound.
-use Rattle.std.proofs.Common.{◌≡◌, ℕ, ◌<◌, ◌≤◌, true, false, ltb, leb, ◌≢◌, List, [], ◌∷◌, ◌++◌, length, get_or, take, set, Some, None, Decides, sym, refl, ap, ◌∙◌, subst, ⊎_elim, arith}
-use Rattle.std.proofs.ByRecursion.{All-get_or, All-from_get_or, Decides-by_and}
+use Rattle.std.proofs.Common.{◌≡◌, ℕ, ◌<◌, ◌≤◌, true, ltb, ◌≢◌, List, ◌++◌, length, take, set, Some, sym, ap, ◌∙◌, subst, ⊎_elim, arith}
+use Rattle.std.proofs.lemmas.List.Elements.{All-get_or, All-from_get_or, All-weaker}
+use Rattle.std.proofs.lemmas.List.Folds.{list_all-append}
+use Rattle.std.proofs.lemmas.List.Sums.{AllPass-from_list_all, list_all-from_AllPass}
 use Rattle.std.proofs.lemmas.List.{get_or-set_same, get_or-set_other, get_or-take, get_or_past, length-take-le}
-use Rattle.std.proofs.lemmas.Bool.{cases_eq, cases_lt, and_parts, and_from, and_right, cond-false, ltb-true, lt-ltb, le-leb}
-use Rattle.std.specs.List.{AllByRecursion}
+use Rattle.std.proofs.lemmas.Bool.{cases_eq, cases_lt, and_parts, and_from, ltb-true, lt-ltb, le-leb}
+use Rattle.std.specs.List.{All}
 use Rattle.machine.specs.declared.node.Entry.{Entry}
 use Rattle.machine.specs.declared.node.Exits.{Exits}
 use Rattle.machine.specs.declared.node.Exits.TheVariants as exits
@@ -39,48 +41,35 @@ sound_later n m e h good =
     sound_from m e (record { node = t.node; two = t.two; leads = leads_later n m (exits_of e.node) e.targets h t.leads })
 
 -- the test of a whole list, by places
-every_decides : (count : ℕ) (es : List Entry) → Decides (every_sound count es) (AllByRecursion (Sound count) es)
-every_decides count es =
-    Decides-by_and (sound count) (Sound count) (every_sound count) (λ e. (λ t. t, λ t. t)) refl (λ _ _. refl) es
-
-pub every_from_all : (count : ℕ) (es : List Entry) → AllByRecursion (Sound count) es → every_sound count es ≡ true
-every_from_all count es all = (every_decides count es).1 all
-
-module _ (count : ℕ) (entries : List Entry) (n : ℕ) (fits : n ≤ length entries) where
-  place : (k : ℕ) → k < n → get_or (take n entries) k blank ≡ entry_at entries k
-  place k below = get_or-take n entries k blank below
-
-  pub every_sound_true : ((k : ℕ) → k < n → Sound count (entry_at entries k)) → every_sound count (take n entries) ≡ true
-  every_sound_true all =
-      (every_decides count (take n entries)).1
-      (All-from_get_or (Sound count) (take n entries) blank
-      (λ k below. let l : k < n = omega (arith, length-take-le n entries fits) in subst (λ (x : Entry). Sound count x) (sym (place k l)) (all k l)))
+pub every_from_all : (count : ℕ) (es : List Entry) → All (Sound count) es → every_sound count es ≡ true
+every_from_all count es all = list_all-from_AllPass (sound count) es all
 
 -- no entry is sound past the end of the list
 pub long_enough : (n : ℕ) (entries : List Entry) → AllSound n entries → n ≤ length entries
 long_enough n entries all =
     ⊎_elim
     (λ less. let bad : Sound n blank = subst (λ (e : Entry). Sound n e) (get_or_past entries (length entries) blank (omega arith)) (all (length entries) less) in
-    let z : ◌≡◌ {A = ℕ} 0 1 = cc in absurd (omega arith))
+    cc)
     (λ enough. enough)
     (cases_lt (length entries) n)
 
 pub all_every : (n : ℕ) (entries : List Entry) → AllSound n entries → every_sound n (take n entries) ≡ true
-all_every n entries all = every_sound_true n entries n (long_enough n entries all) all
+all_every n entries all =
+    every_from_all n (take n entries)
+    (All-from_get_or (Sound n) (take n entries) blank
+    (λ k below. let l : k < n = omega (arith, length-take-le n entries (long_enough n entries all)) in rw (get_or-take n entries k blank l) (all k l)))
 
 pub every_all : (n : ℕ) (entries : List Entry) → n ≤ length entries → every_sound n (take n entries) ≡ true → AllSound n entries
 every_all n entries fits good k below =
     subst (λ (e : Entry). Sound n e) (get_or-take n entries k blank below)
-    (All-get_or (Sound n) (take n entries) k blank (omega (arith, length-take-le n entries fits)) ((every_decides n (take n entries)).0 good))
+    (All-get_or (Sound n) (take n entries) k blank (omega (arith, length-take-le n entries fits)) (AllPass-from_list_all (sound n) (take n entries) good))
 
 every_later : (n m : ℕ) (es : List Entry) → n ≤ m → every_sound n es ≡ true → every_sound m es ≡ true
-every_later n m [] h good = refl
-every_later n m (e ∷ es) h good =
-    let t = and_parts _ _ good in and_from _ _ (sound_later n m e h t.0) (every_later n m es h t.1)
+every_later n m es h good =
+    every_from_all m es (All-weaker (Sound n) (Sound m) (λ e. sound_later n m e h) es (AllPass-from_list_all (sound n) es good))
 
 every_append : (n : ℕ) (es more : List Entry) → every_sound n es ≡ true → every_sound n more ≡ true → every_sound n (es ++ more) ≡ true
-every_append n [] more a b = b
-every_append n (e ∷ es) more a b = let t = and_parts _ _ a in and_from _ _ t.0 (every_append n es more t.1 b)
+every_append n es more a b = list_all-append (sound n) es more ∙ and_from _ _ a b
 
 -- entries put behind the first n
 pub appended_sound : (n m : ℕ) (before after more : List Entry) → n ≤ m → m ≤ length after → AllSound n before → every_sound m more ≡ true → take m after ≡ take n before ++ more → AllSound m after
@@ -91,6 +80,3 @@ appended_sound n m before after more h fits all good is =
 module _ (entries : List Entry) (count first : ℕ) where
   pub checked_good : count ≤ 200 → first < count → every_sound count (take count entries) ≡ true → checked entries count first ≡ Some (prog (take count entries) first)
   checked_good few starts good = rw (le-leb count 200 few, lt-ltb first count starts, good)
-
-  pub checked_bad : every_sound count (take count entries) ≡ false → checked entries count first ≡ None
-  checked_bad bad = cond-false _ _ _ (and_right (leb count 200) _ (and_right (ltb first count) _ bad))

@@ -1,8 +1,8 @@
 -- Nodes lead from valid states to valid states.
-use Rattle.std.proofs.Common.{◌≡◌, ℕ, zero, suc, ◌/◌, ◌%◌, ◌^◌, ◌<◌, Bool, true, false, cond, eqb, ltb, List, [], ◌∷◌, length, get_or, set, IfSome, Some, None, Option, refl, ◌∙◌, div-le_self, arith, rules}
+use Rattle.std.proofs.Common.{◌≡◌, ℕ, zero, suc, ◌/◌, ◌%◌, ◌^◌, ◌<◌, Bool, true, false, cond, eqb, ltb, List, [], ◌∷◌, length, get_or, set, IfSome, Some, None, Option, refl, ◌∙◌, div-le_self, arith}
 use native.Mathlib.Nat.{mod-le}
 use Rattle.std.proofs.lemmas.Nat.{mod_below, shr_le, and_le_l, or_lt, xor_lt}
-use Rattle.std.proofs.ByRecursion.{All-get_or, All-set, All-push}
+use Rattle.std.proofs.lemmas.List.Elements.{All-nil, All-head, All-tail, All-replicate, All-get_or, All-set, All-push}
 use Rattle.std.proofs.lemmas.List.{length-set}
 use Rattle.std.proofs.lemmas.Bool.{and_parts, ltb-true}
 use Rattle.machine.specs.declared.node.Operand.{Operand}
@@ -81,9 +81,9 @@ module _ (s : State) (ok : Valid s) where
       record {
         eight = length-set s.regs to w ∙ ok.eight;
         sixty_four = ok.sixty_four;
-        regs_fit = set_fit s.regs to w h.0 ok.regs_fit;
+        regs_fit = set_fit s.regs to w (All-head (λ v. v < 2 ^ 32) w rest h) ok.regs_fit;
         cells_fit = ok.cells_fit;
-        inputs_fit = h.1;
+        inputs_fit = All-tail (λ v. v < 2 ^ 32) w rest h;
         written_fit = ok.written_fit;
       }
 
@@ -121,6 +121,18 @@ stays_valid Skip s t ok = ok
 stays_valid Halt s t ok = ok
 stays_valid (Fail fault) s t ok = ok
 
+-- a run begins in a valid state
+pub fresh_valid : (cells inputs : List ℕ) → length cells ≡ cell_count → Words cells → Words inputs → Valid (fresh cells inputs)
+fresh_valid cells inputs long a b =
+    record {
+      eight = refl;
+      sixty_four = long;
+      regs_fit = All-replicate (λ w. w < 2 ^ 32) 8 0 (omega arith);
+      cells_fit = a;
+      inputs_fit = b;
+      written_fit = All-nil (λ w. w < 2 ^ 32);
+    }
+
 -- and the run stays inside the program
 module _ (p : Prog) (ok : IsProgram p) where
   followed : (n : ℕ) (s : State) (f : Effect) → act (entry_of p n).node s ≡ f → n < length p.entries → Valid (state_after f) → ValidAt p (follow (entry_of p n) f)
@@ -134,10 +146,6 @@ module _ (p : Prog) (ok : IsProgram p) where
   after_valid : (n : ℕ) (c : Config) → ValidAt p c → ValidAt p (after p n c)
   after_valid zero c h = h
   after_valid (suc n) c h = after_valid n (step p c) (step_valid c h)
-
-  fresh_valid : (cells inputs : List ℕ) → length cells ≡ cell_count → Words cells → Words inputs → Valid (fresh cells inputs)
-  fresh_valid cells inputs long a b =
-      record { eight = refl; sixty_four = long; regs_fit = search rules; cells_fit = a; inputs_fit = b; written_fit = tt }
 
   pub valid_run : StaysValid p
   valid_run cells inputs long a b n = after_valid n (start p cells inputs) (ok.starts, fresh_valid cells inputs long a b)

@@ -1,3 +1,4 @@
+pub mod Every
 pub mod Limits
 pub mod Arithmetic
 pub mod State

@@ -1,5 +1,6 @@
 -- A program as a value: its entries, and the number of its first node.
-use Rattle.std.specs.Prelude.{ℕ, ◌<◌, ◌≤◌, Bool, true, cond, ◌&&◌, List, [], ◌∷◌, length, take, Some, None, Option, nat_le, nat_lt}
+use Rattle.std.specs.Prelude.{ℕ, ◌<◌, ◌≤◌, Bool, cond, ◌&&◌, List, [], ◌∷◌, length, take, Some, None, Option, nat_le, nat_lt}
+use Rattle.std.specs.List.{list_all}
 use Rattle.machine.specs.declared.node.Entry.{Entry}
 use Rattle.machine.specs.declared.program.Program.{Program}
 use Rattle.machine.specs.Limits.{node_limit}
@@ -28,8 +29,7 @@ halting = prog (halt ∷ []) 0
 
 -- whether every entry may stand in a program of `count` nodes
 abbrev pub every_sound : ℕ → List Entry → Bool
-every_sound count [] = true
-every_sound count (entry ∷ entries) = sound count entry && every_sound count entries
+every_sound count entries = list_all (sound count) entries
 
 -- the program that the first `count` entries make, if they make one
 abbrev pub checked : List Entry → ℕ → ℕ → Option Prog

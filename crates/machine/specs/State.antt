@@ -1,6 +1,6 @@
 -- The machine's state.
 use Rattle.std.specs.Prelude.{◌≡◌, ℕ, ◌<◌, List, length, slice_index, slice_set}
-use Rattle.std.specs.List.{AllByRecursion}
+use Rattle.std.specs.List.{All}
 use Rattle.machine.specs.declared.node.Operand.{Operand}
 use Rattle.machine.specs.declared.node.Operand.TheVariants.{Reg, Num}
 use Rattle.machine.specs.Limits.{register_count, cell_count, word_limit}
@@ -23,7 +23,7 @@ abbrev pub with_reg : State → ℕ → ℕ → State
 with_reg s to word = state (slice_set s.regs to word) s.cells s.inputs s.written
 
 abbrev pub Words : List ℕ → Type 0
-Words ws = AllByRecursion (λ w. w < word_limit) ws
+Words ws = All (λ w. w < word_limit) ws
 
 -- a state that the machine can be in
 pub record Valid (s : State) : Type 0 where

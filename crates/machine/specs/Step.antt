@@ -1,11 +1,11 @@
 -- What one node does to a state.
 use Rattle.std.specs.Prelude.{ℕ, Bool, false, cond, List, [], ◌∷◌, ◌++◌, Some, None, Option, ◌==◌, nat_le, slice_index, slice_set}
+use Rattle.std.specs.declared.ops.ControlFlow.{ControlFlow}
+use Rattle.std.specs.declared.ops.ControlFlow.TheVariants.{Continue, Break}
 use Rattle.machine.specs.declared.node.Node.{Node}
 use Rattle.machine.specs.declared.node.Node.TheVariants.{Mov, Binary, In, Out, Ld, St, Br, Skip, Halt, Fail}
 use Rattle.machine.specs.declared.outcome.Ending.{Ending}
 use Rattle.machine.specs.declared.outcome.Ending.TheVariants.{Halted, Failed, Divided, Dry}
-use Rattle.machine.specs.declared.outcome.Acted.{Acted}
-use Rattle.machine.specs.declared.outcome.Acted.TheVariants.{Left, Over}
 use Rattle.machine.specs.Arithmetic.{computed}
 use Rattle.machine.specs.State.{State, state, value, with_reg}
 
@@ -37,9 +37,9 @@ act Halt s = ends Halted s
 act (Fail fault) s = ends (Failed fault) s
 
 -- what the code tells of a node, with the state after it
-abbrev pub effect : Acted → State → Effect
-effect (Left e) s = leaves e s
-effect (Over k) s = ends k s
+abbrev pub effect : ControlFlow Ending ℕ → State → Effect
+effect (Continue e) s = leaves e s
+effect (Break k) s = ends k s
 
 -- whether a node would write a word for which there is no room
 abbrev pub blocked : Node → ℕ → ℕ → Bool

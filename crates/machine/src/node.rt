@@ -10,13 +10,13 @@ pub const NODE_LIMIT: usize = 200;
 pub type NodeNumber = u8;
 
 /// A register to read, or a number.
-#[derive(Clone, Copy, PartialEq, Eq)]
+#[derive(Clone, Copy, PartialEq, Eq, Debug)]
 pub enum Operand {
     Reg(u8),
     Num(u32),
 }
 
-#[derive(Clone, Copy, PartialEq, Eq)]
+#[derive(Clone, Copy, PartialEq, Eq, Debug)]
 pub enum BinaryOp {
     Add,
     Sub,
@@ -32,7 +32,7 @@ pub enum BinaryOp {
     Lt,
 }
 
-#[derive(Clone, Copy, PartialEq, Eq)]
+#[derive(Clone, Copy, PartialEq, Eq, Debug)]
 pub enum Node {
     Mov {
         to: u8,
@@ -69,7 +69,7 @@ pub enum Node {
 }
 
 /// The exits of a node: a straight node has exit 0, `br` exits 0 and 1, and a node that ends every run has none.
-#[derive(Clone, Copy, PartialEq, Eq)]
+#[derive(Clone, Copy, PartialEq, Eq, Debug)]
 pub enum Exits {
     None,
     One,
@@ -77,7 +77,8 @@ pub enum Exits {
 }
 
 /// A node with the numbers of the nodes that its exits lead to; 0 in the place of an exit that it has not.
-#[derive(Clone, Copy)]
+// Plain data that anybody may fill: with an enum of targets some entries that are refused today could not be written.
+#[derive(Clone, Copy, PartialEq, Eq, Debug)]
 pub struct Entry {
     pub node: Node,
     pub targets: [NodeNumber; 2],

@@ -10,13 +10,6 @@ pub enum Ending {
     Dry,
 }
 
-/// What a node did: the run goes on by one of the node's exits, or is over.
-#[derive(Clone, Copy)]
-pub enum Acted {
-    Left(usize),
-    Over(Ending),
-}
-
 /// Why a run stopped: a node ended it, the budget was used up, or the output buffer was full.
 #[derive(Clone, Copy, PartialEq, Eq, Debug)]
 pub enum Stop {
@@ -25,7 +18,7 @@ pub enum Stop {
     Full,
 }
 
-#[derive(Clone, Copy)]
+#[derive(Clone, Copy, PartialEq, Eq, Debug)]
 pub struct Outcome {
     pub stop: Stop,
     pub steps: u32,

@@ -9,7 +9,8 @@ mod view;
 
 use crate::node::{NodeNumber, Table};
 
-/// Its first `count` entries are those of the table; a run begins at the node `first`.
+// Without a heap, and to be `Copy`, a program is a table of fixed size with the number of its entries.
+/// Its entries are the first `count` of the table; a run begins at the node `first`.
 #[derive(Clone, Copy)]
 pub struct Program {
     table: Table,

@@ -16,6 +16,7 @@ impl Operand {
 }
 
 impl Node {
+    // A node is plain data that anybody may fill, and an enum has no invariant: what runs a node requires this.
     /// Whether the registers and cells that the node names are there.
     pub fn is_sound(self) -> bool
         ensures { result ≡ is_node self }

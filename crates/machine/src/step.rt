@@ -1,39 +1,18 @@
 // What one node does.
-ghost use Rattle.std.specs.Prelude.{◌≡◌, ◌≤◌, true, false, length, drop};
+ghost use Rattle.std.specs.Prelude.{◌≡◌, ◌≤◌, true, false, length};
 ghost use Rattle.machine.specs.State.{value};
 ghost use Rattle.machine.specs.Step.{act, effect, blocked};
-ghost use Rattle.machine.specs.Progress.{state_of, regs_set, beginning, outcome_of};
-ghost use Rattle.machine.specs.WellFormed.{is_operand, is_register, is_node};
+ghost use Rattle.machine.specs.Progress.{state_of, GoneOn};
+ghost use Rattle.machine.specs.WellFormed.{is_operand, is_node};
 
 use crate::arithmetic::compute;
 use crate::node::{Node, Operand};
-use crate::outcome::{Acted, Ending, Outcome, Stop};
+use crate::outcome::Ending;
 use crate::progress::Progress;
+use std::ops::ControlFlow;
 
-impl Progress {
-    /// Where every run begins.
-    pub(crate) fn new() -> Progress
-        ensures { result ≡ beginning }
-    {
-        Progress {
-            registers: [0; 8],
-            read: 0,
-            written: 0,
-        }
-    }
-
-    pub(crate) fn outcome(&self, stop: Stop, steps: u32) -> Outcome
-        ensures { result ≡ outcome_of self.now stop steps }
-    {
-        Outcome {
-            stop,
-            steps,
-            written: self.written,
-            read: self.read,
-        }
-    }
-
-    pub(crate) fn operand(&self, operand: Operand) -> u32
+impl Progress<'_, '_, '_> {
+    fn operand(&self, operand: Operand) -> u32
         requires { is_operand operand ≡ true }
         ensures { result ≡ value self.now.registers operand }
     {
@@ -43,87 +22,51 @@ impl Progress {
         }
     }
 
-    fn keep(&mut self, to: u8, word: u32)
-        requires { is_register to ≡ true }
-        ensures { self.new ≡ regs_set self.old to word }
+    /// Whether a node would write a word for which there is no room.
+    pub(crate) fn is_blocked(&self, node: Node) -> bool
+        ensures { result ≡ blocked node (length self.now.output.now) self.now.written }
     {
-        self.registers[to as usize] = word;
+        matches!(node, Node::Out { .. }) && self.output.len() <= self.written
     }
 
-    /// Runs one node, for whose word there is room.
-    pub(crate) fn perform(
-        &mut self,
-        node: Node,
-        cells: &mut [u32],
-        inputs: &[u32],
-        output: &mut [u32],
-    ) -> Acted
+    /// Runs one node, for whose word there is room: the run goes on by one of the node's exits, or is over.
+    pub(crate) fn perform(&mut self, node: Node) -> ControlFlow<Ending, usize>
         requires node { is_node node ≡ true }
-        requires cells { length cells.old ≡ 64 }
-        requires read { self.old.read ≤ length inputs.now }
-        requires written { self.old.written ≤ length output.old }
-        requires room { blocked node (length output.old) self.old.written ≡ false }
-        ensures acts { act node (state_of self.old cells.old inputs.now output.old) ≡ effect result (state_of self.new cells.new inputs.now output.new) }
-        ensures within { (self.new.read ≤ length inputs.now) × (self.new.written ≤ length output.old) }
-        ensures onward { self.old.written ≤ self.new.written }
-        ensures rest { drop self.new.written output.new ≡ drop self.new.written output.old }
+        requires room { blocked node (length self.old.output.now) self.old.written ≡ false }
+        ensures acts { act node (state_of self.old) ≡ effect result (state_of self.new) }
+        ensures goes_on { GoneOn self.old self.new }
     {
         match node {
-            Node::Mov { to, from } => {
-                let word = self.operand(from);
-                self.keep(to, word);
-                Acted::Left(0)
-            }
+            Node::Mov { to, from } => self.registers[to as usize] = self.operand(from),
             Node::Binary {
                 op,
                 to,
                 left,
                 right,
             } => {
-                match compute(op, self.operand(left), self.operand(right)) {
-                    Some(word) => {
-                        self.keep(to, word);
-                        Acted::Left(0)
-                    }
-                    None => Acted::Over(Ending::Divided),
-                }
+                let Some(word) = compute(op, self.operand(left), self.operand(right)) else {
+                    return ControlFlow::Break(Ending::Divided);
+                };
+                self.registers[to as usize] = word;
             }
             Node::In { to } => {
-                if self.read == inputs.len() {
-                    return Acted::Over(Ending::Dry);
-                }
-                let word = inputs[self.read];
-                self.read += 1;
-                self.keep(to, word);
-                Acted::Left(0)
+                let Some((word, rest)) = self.inputs.split_first() else {
+                    return ControlFlow::Break(Ending::Dry);
+                };
+                self.registers[to as usize] = *word;
+                self.inputs = rest;
             }
             Node::Out { from } => {
-                output[self.written] = self.operand(from);
+                self.output[self.written] = self.operand(from);
                 self.written += 1;
-                Acted::Left(0)
             }
-            Node::Ld { to, cell } => {
-                self.keep(to, cells[cell as usize]);
-                Acted::Left(0)
-            }
-            Node::St { cell, from } => {
-                cells[cell as usize] = self.operand(from);
-                Acted::Left(0)
-            }
-            Node::Br { on } => Acted::Left(usize::from(self.operand(on) == 0)),
-            Node::Skip => Acted::Left(0),
-            Node::Halt => Acted::Over(Ending::Halted),
-            Node::Fail { fault } => Acted::Over(Ending::Failed(fault)),
+            Node::Ld { to, cell } => self.registers[to as usize] = self.cells[cell as usize],
+            Node::St { cell, from } => self.cells[cell as usize] = self.operand(from),
+            Node::Br { on } => return ControlFlow::Continue(usize::from(self.operand(on) == 0)),
+            Node::Skip => {}
+            Node::Halt => return ControlFlow::Break(Ending::Halted),
+            Node::Fail { fault } => return ControlFlow::Break(Ending::Failed(fault)),
         }
-    }
-}
-
-/// Whether a node would write a word for which there is no room.
-pub(crate) fn is_blocked(node: Node, room: usize, written: usize) -> bool
-    ensures { result ≡ blocked node room written }
-{
-    match node {
-        Node::Out { .. } => room <= written,
-        _ => false,
+        ControlFlow::Continue(0)
     }
 }

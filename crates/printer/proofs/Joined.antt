@@ -1,25 +1,9 @@
--- Lines as the words that are written one by one.
-use Rattle.std.proofs.Common.{◌≡◌, ℕ, ◌+◌, ◌<◌, List, [], ◌∷◌, ◌++◌, length, take, drop, sym, ap, ◌∙◌, append_assoc, append-nil, arith}
-use Rattle.std.specs.List.{join_with_byte}
+-- The lines of the nodes, one after another.
+use Rattle.std.proofs.Common.{◌≡◌, ℕ, ◌+◌, ◌<◌, ◌≤◌, List, [], ◌∷◌, ◌++◌, length, take, drop, sym, ap, ◌∙◌, append_assoc, append-nil, arith, length-append}
 use Rattle.std.proofs.lemmas.List.{length-take-le, take-append-drop, take_more, drop_more}
 use Rattle.machine.specs.declared.node.Entry.{Entry}
 use Rattle.machine.specs.WellFormed.{entry_at, blank}
-use Rattle.printer.specs.Pages.{spaced}
 use Rattle.text.specs.Print.{line, entry_words, node_lines}
-use Rattle.printer.proofs.Pages.{spaced_append}
-
-joined_spaced : (w : List ℕ) (ws : List (List ℕ)) → join_with_byte 32 (w ∷ ws) ≡ w ++ spaced ws
-joined_spaced w [] = sym (append-nil w)
-joined_spaced w (v ∷ ws) = ap (λ (t : List ℕ). w ++ 32 ∷ t) (joined_spaced v ws)
-
-pub line_spaced : (w : List ℕ) (ws : List (List ℕ)) → line (w ∷ ws) ≡ w ++ (spaced ws ++ 10 ∷ [])
-line_spaced w ws = ap (λ (t : List ℕ). t ++ 10 ∷ []) (joined_spaced w ws) ∙ append_assoc w (spaced ws) (10 ∷ [])
-
-pub line_parts : (w : List ℕ) (ws vs : List (List ℕ)) → line (w ∷ (ws ++ vs)) ≡ w ++ (spaced ws ++ (spaced vs ++ 10 ∷ []))
-line_parts w ws vs =
-    line_spaced w (ws ++ vs)
-    ∙ ap (λ (t : List ℕ). w ++ (t ++ 10 ∷ [])) (spaced_append ws vs)
-    ∙ ap (λ (t : List ℕ). w ++ t) (append_assoc (spaced ws) (spaced vs) (10 ∷ []))
 
 lines_append : (n : ℕ) (es fs : List Entry) → node_lines n (es ++ fs) ≡ node_lines n es ++ node_lines (n + length es) fs
 lines_append n [] fs = ap (λ k. node_lines k fs) (let z : n ≡ n + 0 = omega arith in z)
@@ -30,14 +14,22 @@ lines_append n (e ∷ es) fs =
 lines_split : (es fs : List Entry) (i : ℕ) → length es ≡ i → node_lines 0 (es ++ fs) ≡ node_lines 0 es ++ node_lines i fs
 lines_split es fs i long = lines_append 0 es fs ∙ ap (λ k. node_lines 0 es ++ node_lines k fs) (let z : 0 + length es ≡ i = omega arith in z)
 
--- the lines before an entry, its own, and those behind it
-pub lines_cut : (es : List Entry) (i : ℕ) → i < length es → node_lines 0 es ≡ node_lines 0 (take i es) ++ (line (entry_words i (entry_at es i)) ++ node_lines (i + 1) (drop (i + 1) es))
-lines_cut es i below =
+-- the lines before an entry and its own are no longer than all of them
+pub lines_fit : (es : List Entry) (i : ℕ) → i < length es → length (node_lines 0 (take i es)) + length (line (entry_words i (entry_at es i))) ≤ length (node_lines 0 es)
+lines_fit es i below =
+    let own = line (entry_words i (entry_at es i)) in
+    let behind = node_lines (i + 1) (drop (i + 1) es) in
+    let cut : node_lines 0 es ≡ node_lines 0 (take i es) ++ (own ++ behind) =
     ap (node_lines 0) (sym (take-append-drop i es) ∙ ap (λ (fs : List Entry). take i es ++ fs) (drop_more es i blank below))
-    ∙ lines_split (take i es) (entry_at es i ∷ drop (i + 1) es) i (length-take-le i es (omega arith))
+    ∙ lines_split (take i es) (entry_at es i ∷ drop (i + 1) es) i (length-take-le i es (omega arith)) in
+    omega (arith, ap length cut, length-append (node_lines 0 (take i es)) (own ++ behind), length-append own behind)
 
-pub lines_more : (es : List Entry) (i : ℕ) → i < length es → node_lines 0 (take (i + 1) es) ≡ node_lines 0 (take i es) ++ line (entry_words i (entry_at es i))
-lines_more es i below =
+-- behind the lines before an entry stands its own
+pub lines_more : (held : List ℕ) (es : List Entry) (i : ℕ) → i < length es → (held ++ node_lines 0 (take i es)) ++ line (entry_words i (entry_at es i)) ≡ held ++ node_lines 0 (take (i + 1) es)
+lines_more held es i below =
+    let own = line (entry_words i (entry_at es i)) in
+    let more : node_lines 0 (take (i + 1) es) ≡ node_lines 0 (take i es) ++ own =
     ap (node_lines 0) (take_more es i blank below)
     ∙ lines_split (take i es) (entry_at es i ∷ []) i (length-take-le i es (omega arith))
-    ∙ ap (λ (t : List ℕ). node_lines 0 (take i es) ++ t) (append-nil (line (entry_words i (entry_at es i))))
+    ∙ ap (λ (t : List ℕ). node_lines 0 (take i es) ++ t) (append-nil own) in
+    append_assoc held (node_lines 0 (take i es)) own ∙ ap (λ (t : List ℕ). held ++ t) (sym more)

@@ -1,3 +1,2 @@
-pub mod Pages
 pub mod Joined
 pub mod Long

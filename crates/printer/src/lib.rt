@@ -4,3 +4,4 @@
 mod name;
 mod page;
 pub mod print;
+pub mod short_buffer;

@@ -50,10 +50,7 @@ fn short_list(rt: HostRuntime) -> Result<(), Fail> {
 /// The visits of settling four skips, or the nodes where that is declined.
 fn settle_skips(table: &mut [bool]) -> Result<Result<u32, usize>, Fail> {
     let program = skips(4)?;
-    match settle(&Doubling, &program, table) {
-        Ok(visits) => Ok(Ok(visits)),
-        Err(short) => Ok(Err(short.nodes)),
-    }
+    Ok(settle(&Doubling, &program, table).map_err(|short| short.nodes))
 }
 
 #[test]

@@ -4,7 +4,7 @@ ghost use Rattle.round_trials.specs.Doubling.{doubling_moves};
 ghost use Rattle.std.proofs.Common.{rules};
 
 use analysis::analysis::{Analysis, Facts};
-use analysis::proposal::{Proposal, ROW_LIMIT};
+use analysis::proposal::{Proposal, Row};
 use machine::node::Node;
 use sample::reached::Reached;
 
@@ -47,16 +47,14 @@ impl Analysis for Doubling {
         *fact
     }
 
-    fn propose(&self, _fact: &bool, node: Node) -> Proposal {
+    fn propose(&self, _fact: &bool, node: Node) -> Option<Proposal> {
         match node {
-            Node::Skip => Proposal {
-                present: true,
-                row: [Node::Skip; ROW_LIMIT],
-                len: 2,
+            Node::Skip => Some(Proposal {
+                row: Row::from_slice(&[Node::Skip, Node::Skip])?,
                 way: 0,
                 set: SET,
-            },
-            _ => Proposal::ABSENT,
+            }),
+            _ => None,
         }
     }
 }

@@ -28,11 +28,7 @@ pub type Told = Result<Result<Counts, RoundRefusal>, AllocError>;
 fn table_for<P: Analysis>(heap: Global, pile: &P) -> Result<Vec<P::Fact>, AllocError>
     ensures { IfOk result (λ table. node_limit ≤ vec_len table) }
 {
-    let mut table = Vec::new(heap);
-    while table.len() < NODE_LIMIT {
-        table.push(pile.nowhere())?;
-    }
-    Ok(table)
+    Ok(vec![in heap; pile.nowhere(); NODE_LIMIT]?)
 }
 
 /// The visits of settling a program, unless there is no memory for the table.
@@ -40,10 +36,7 @@ pub fn visits_of<P: Analysis>(heap: Global, pile: &P, program: &Program) -> Resu
     ensures { IfOk result (λ visits. visits ≡ visits_told (P.Facts.facts pile.now) (P.Analysis.moves pile.now) (program_of program.now)) }
 {
     let mut table = table_for(heap, pile)?;
-    match settle(pile, program, &mut table) {
-        Ok(visits) => Ok(visits),
-        Err(_) => unreachable(),
-    }
+    Ok(settle(pile, program, &mut table).unwrap())
 }
 
 /// A round under a pile, which is declined only for a short change list, and after which the program does what it did.

@@ -1,7 +1,5 @@
 // Small programs, and what is looked for in them and in a change list.
 use crate::driver::StandardFact;
-use analyses::constants::Known;
-use analyses::copies::Copied;
 use analyses::reach::Reach;
 use analysis::pair::PairFact;
 use analysis::proposal::ROW_LIMIT;
@@ -24,15 +22,9 @@ pub(crate) const UNWRITTEN: Change = Change {
 
 /// Nowhere, of the standard pile.
 pub(crate) const NOWHERE: StandardFact = PairFact {
-    first: Known {
-        nowhere: true,
-        values: [None; 8],
-    },
+    first: None,
     second: PairFact {
-        first: Copied {
-            nowhere: true,
-            sources: [None; 8],
-        },
+        first: None,
         second: PairFact {
             first: Reach::NOWHERE,
             second: Reach::NOWHERE,
@@ -40,6 +32,7 @@ pub(crate) const NOWHERE: StandardFact = PairFact {
     },
 };
 
+// As in `trials`, whose helpers are for its own tests.
 pub(crate) fn mov(to: u8, from: Operand) -> Node {
     Node::Mov { to, from }
 }
@@ -84,21 +77,21 @@ pub(crate) fn program(entries: &[Entry]) -> Result<Program, Fail> {
 pub(crate) fn skips(count: usize) -> Result<Program, Fail> {
     let count = count.min(NODE_LIMIT);
     let mut table = Table::halting();
-    for i in 1..count {
-        table.entries[i - 1] = to(Node::Skip, i as NodeNumber);
+    let before_last = count.saturating_sub(1);
+    for (i, entry) in table.entries[..before_last].iter_mut().enumerate() {
+        *entry = to(Node::Skip, i as NodeNumber + 1);
     }
-    match Program::from_table(table, count as NodeNumber, 0) {
-        Some(program) => Ok(program),
-        None => Err(Fail::new("the skips are no program")),
-    }
+    Program::from_table(table, count as NodeNumber, 0).ok_or_else(|| Fail::new(
+        "the skips are no program",
+    ))
 }
 
 /// Whether a node of the program is this one, and leads there by exit 0.
 pub(crate) fn has(program: &Program, at: usize, node: Node, next: NodeNumber) -> bool {
-    match program.entries().get(at) {
-        Some(entry) => entry.node == node && entry.targets[0] == next,
-        None => false,
-    }
+    program
+        .entries()
+        .get(at)
+        .is_some_and(|entry| entry.node == node && entry.targets[0] == next)
 }
 
 /// Whether a change puts one node in the place of another.

@@ -110,8 +110,8 @@ fn guess_is_withdrawn(rt: HostRuntime) -> Result<(), Fail> {
     assert!(rt; has(&program, 4, IS_PAID, 5));
     assert!(rt; has(&program, 6, keep(DUE), 7));
     assert!(rt; has(&program, 11, show(DUE), 12));
-    assert_eq!(rt; table[4].first.values[3], None);
-    assert_eq!(rt; table[6].second.first.sources[2], None);
+    assert_eq!(rt; table[4].first.and_then(|values| values[3]), None);
+    assert_eq!(rt; table[6].second.first.and_then(|sources| sources[2]), None);
     assert!(rt; puts(&changes[0], 2, show(DUE), show(PRICE), 0, COPIES));
     assert!(rt;
         puts(

@@ -1,8 +1,8 @@
 -- Changes that act as their nodes leave the program the same to every machine.
 use Rattle.std.proofs.Common.{◌≡◌, ℕ, suc, ◌+◌, ◌-◌, ◌<◌, ◌≤◌, ◌≢◌, ◌⊎◌, List, [], ◌∷◌, ◌++◌, length, get_or, set, sym, refl, ap, ◌∙◌, subst, inl, inr, ⊎_elim, arith}
-use Rattle.std.specs.List.{AllByRecursion}
 use Rattle.std.proofs.lemmas.List.{append_assoc, length-append, length-set, length_push, get_or_at, get_or_append_left, get_or-set_same, get_or-set_other}
 use Rattle.std.proofs.lemmas.Bool.{cases_eq}
+use Rattle.machine.specs.Every.{Every}
 use Rattle.machine.specs.declared.node.Entry.{Entry}
 use Rattle.machine.specs.declared.node.Node.{Node}
 use Rattle.machine.specs.Equivalent.{Runnable, Equivalent}
@@ -144,7 +144,7 @@ module _ (low : ℕ) where
             (put_stands low q (entry_of q c.at) c.at c.way c.row refl (omega arith) big);
       }
 
-  each_place : (P : Replacement → Type 0) (cs : List Replacement) (from : ℕ) → Rising from low cs → AllByRecursion P cs → (q : Prog) → low ≤ length q.entries →
+  each_place : (P : Replacement → Type 0) (cs : List Replacement) (from : ℕ) → Rising from low cs → Every P cs → (q : Prog) → low ≤ length q.entries →
       (i : ℕ) → i < low → (entry_of (changed_by_all q cs) i ≡ entry_of q i) ⊎ Replaced P (changed_by_all q cs) (entry_of q i) i
   each_place P [] from up all q big i below = inl refl
   each_place P (c ∷ cs) from up all q big i below =
@@ -170,7 +170,7 @@ abbrev pub ActsAs : Prog → (ℕ → State → Type 0) → Replacement → Type
 ActsAs p Allowed c = (s : State) → Valid s → Allowed c.at s → act (entry_of p c.at).node s ≡ run_row c.row c.way s
 
 module _ (p : Prog) (ok : IsProgram p) (Allowed : ℕ → State → Type 0) (reached : Reached p Allowed)
-    (cs : List Replacement) (rising : Rising 0 (length p.entries) cs) (acting : AllByRecursion (ActsAs p Allowed) cs) where
+    (cs : List Replacement) (rising : Rising 0 (length p.entries) cs) (acting : Every (ActsAs p Allowed) cs) where
   q : Prog
   q = changed_by_all p cs
 

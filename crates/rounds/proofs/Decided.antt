@@ -1,8 +1,7 @@
 -- What a round makes: the changes ascend, each is what the pile proposes for its node, and the program stays the same to every machine.
 use Rattle.std.proofs.Common.{◌≡◌, ℕ, zero, suc, ◌+◌, ◌<◌, ◌≤◌, Bool, true, false, cond, leb, List, [], ◌∷◌, length, Some, None, Option, sym, refl, subst, arith}
-use Rattle.std.specs.List.{AllByRecursion}
-use Rattle.std.proofs.ByRecursion.{All-weaker}
 use Rattle.std.proofs.lemmas.Bool.{leb-true}
+use Rattle.machine.specs.Every.{Every, every_weaker}
 use Rattle.machine.specs.declared.node.Node.{Node}
 use Rattle.machine.specs.Equivalent.{Equivalent}
 use Rattle.machine.specs.Limits.{node_limit}
@@ -32,7 +31,7 @@ module _ {Fact : Type 0} (v : FactsOf Fact) (m : MovesOf Fact) (p : Prog) (facts
 
   pub record Made (from low size : ℕ) (cs : List Replacement) : Type 0 where
     pub rising : Rising from low cs
-    pub from_pile : AllByRecursion FromPile cs
+    pub from_pile : Every FromPile cs
     pub fitting : Fitting size cs
 
   pub offered_from_pile : (n : ℕ) (c : Replacement) → offered v m p facts n ≡ Some c → (c.at ≡ n) × FromPile c
@@ -110,11 +109,11 @@ module _ {Fact : Type 0} (v : FactsOf Fact) (m : MovesOf Fact) (p : Prog) (facts
         let shown = subst (ProposalShows v fact node) told_of.said (shows.proposal fact node proper) in
         record { place = below; form = shown.0; acts = shown.1 }
 
-    all_shown : (cs : List Replacement) (from : ℕ) → Rising from (length p.entries) cs → AllByRecursion FromPile cs → AllByRecursion Shown cs
+    all_shown : (cs : List Replacement) (from : ℕ) → Rising from (length p.entries) cs → Every FromPile cs → Every Shown cs
     all_shown [] from up all = tt
     all_shown (c ∷ cs) from up all = (from_pile_shown c up.1 all.0, all_shown cs (suc c.at) up.2 all.1)
 
-    pub made_shown : (k n size : ℕ) → n + k ≤ length p.entries → AllByRecursion Shown (decided v m p facts k n size).made
+    pub made_shown : (k n size : ℕ) → n + k ≤ length p.entries → Every Shown (decided v m p facts k n size).made
     made_shown k n size room =
         let made = decided_made k n size (length p.entries) room in
         all_shown (decided v m p facts k n size).made n made.rising made.from_pile
@@ -123,7 +122,7 @@ module _ {Fact : Type 0} (v : FactsOf Fact) (m : MovesOf Fact) (p : Prog) (facts
         Equivalent p (changed_by_all p (decided v m p facts k 0 size).made)
     decided_equivalent k size room allows =
         changed_equivalent p ok Allowed allows (decided v m p facts k 0 size).made (decided_made k 0 size (length p.entries) (omega arith)).rising
-        (All-weaker Shown (ActsAs p Allowed) (λ c shown. shown.acts) (decided v m p facts k 0 size).made (made_shown k 0 size (omega arith)))
+        (every_weaker Shown (ActsAs p Allowed) (λ c shown. shown.acts) (decided v m p facts k 0 size).made (made_shown k 0 size (omega arith)))
 
 -- a round leaves the program the same to every machine
 pub round_equivalent : {Fact : Type 0} (v : FactsOf Fact) (m : MovesOf Fact) → MovesShow v m → (p : Prog) → IsProgram p →

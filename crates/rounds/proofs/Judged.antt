@@ -1,6 +1,6 @@
 -- The verdicts told without the search.
 use Rattle.std.proofs.Common.{◌≡◌, ℕ, zero, suc, ◌+◌, Bool, true, false, cond, leb, List, length, is_some, Some, None, Option, refl, ap, ◌∙◌, arith}
-use Rattle.std.specs.List.{AllByRecursion}
+use Rattle.machine.specs.Every.{Every}
 use Rattle.machine.specs.Limits.{node_limit}
 use Rattle.machine.specs.Programs.{Prog}
 use Rattle.analysis.specs.Analyses.{MovesOf}
@@ -12,7 +12,7 @@ use Rattle.rounds.proofs.Decided.{offered_from_pile, decided_made}
 module _ {Fact : Type 0} (v : FactsOf Fact) (m : MovesOf Fact) (p : Prog) (facts : List Fact) where
   -- of the nodes looked at, where so many changes were offered
   record Fair (count : ℕ) (r : Verdicts) : Type 0 where
-    pub made_offered : AllByRecursion (λ c. offered v m p facts c.at ≡ Some c) r.made
+    pub made_offered : Every (λ c. offered v m p facts c.at ≡ Some c) r.made
     pub judged_all : length r.made + r.short ≡ count
 
   fair : (k n size : ℕ) → Fair (offers v m p facts k n) (decided v m p facts k n size)

@@ -1,5 +1,4 @@
 pub mod NodeEquality
-pub mod SameNode
 pub mod Laid
 pub mod Changed
 pub mod Decided

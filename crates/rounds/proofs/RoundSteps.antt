@@ -1,5 +1,5 @@
 -- What the code's steps come to in a round.
-use Rattle.std.proofs.Common.{◌≡◌, ℕ, ◌+◌, ◌-◌, ◌<◌, ◌≤◌, true, false, ◌&&◌, leb, List, length, get_or, take, Some, None, Option, sym, ap, ◌∙◌, subst, arith}
+use Rattle.std.proofs.Common.{◌≡◌, ℕ, ◌+◌, ◌-◌, ◌<◌, ◌≤◌, true, ◌&&◌, leb, List, length, get_or, Some, Option, sym, ap, ◌∙◌, subst, arith}
 use Rattle.std.proofs.lemmas.List.{get_or_read, length-take-le}
 use Rattle.std.proofs.lemmas.Bool.{and_parts, leb-true}
 use Rattle.machine.specs.declared.node.Entry.{Entry}
@@ -7,26 +7,15 @@ use Rattle.machine.specs.declared.node.Node.{Node}
 use Rattle.machine.specs.Programs.{Prog}
 use Rattle.machine.specs.Runs.{entry_of}
 use Rattle.machine.specs.WellFormed.{is_node, blank}
-use Rattle.analysis.specs.declared.proposal.Proposal.{Proposal}
-use Rattle.analysis.specs.Analyses.{MovesOf, meant, instead}
+use Rattle.analysis.specs.Analyses.{MovesOf}
 use Rattle.analysis.specs.Facts.{FactsOf}
-use Rattle.analysis.specs.Pairs.{is_nowhere}
 use Rattle.analysis.specs.Rows.{is_proposal, row_limit}
 use Rattle.settling.specs.Settling.{fact_at}
 use Rattle.rounds.specs.declared.change.Change.{Change}
-use Rattle.rounds.specs.Changes.{Replacement, replacement_of, in_form, is_itself}
+use Rattle.rounds.specs.Changes.{Replacement, replacement_of, in_form}
 use Rattle.rounds.specs.Rounds.{size_after, change_at, offered}
 use Rattle.rounds.proofs.Decided.{offered_from_pile}
 use Rattle.rounds.proofs.Making.{form_parts}
-
--- the node itself is no change
-pub no_change : {Fact : Type 0} (v : FactsOf Fact) (m : MovesOf Fact) (f : Fact) (n : ℕ) (node : Node) (p : Proposal) → is_nowhere v f ≡ false → p.present ≡ true
-    → meant p ≡ m.proposal f node → is_itself node (take (p.len - 0) p.row) ≡ true → None ≡ change_at v m f n node
-no_change v m f n node p reached present said itself =
-    let zero-less : p.len - 0 ≡ p.len = omega arith in
-    let same : is_itself node (take p.len p.row) ≡ true = ap (λ k. is_itself node (take k p.row)) (sym zero-less) ∙ itself in
-    let row : m.proposal f node ≡ instead (take p.len p.row) p.way p.set = sym said ∙ rw present in
-    rw (reached, row, same)
 
 -- what the code asks for at node i, where the program is q by now
 pub offered_is : {Fact : Type 0} (v : FactsOf Fact) (m : MovesOf Fact) (p q : Prog) (facts : List Fact) (i : ℕ) (f : Fact) (es : List Entry) (o : Option Replacement)

@@ -1,9 +1,8 @@
 -- The loop of a round: what is left of it gives what the whole gives.
 use Rattle.std.proofs.Common.{◌≡◌, ℕ, suc, ◌+◌, ◌-◌, ◌<◌, ◌≤◌, true, false, cond, leb, List, [], ◌∷◌, ◌++◌, map, length, take, drop, set, Some, None, sym, refl, ap, ◌∙◌, subst, append_assoc, arith}
-use Rattle.std.specs.List.{AllByRecursion}
-use Rattle.std.proofs.ByRecursion.{All-push}
 use Rattle.std.proofs.lemmas.List.{append-nil, length-map, length-set, length-take-le, map-append, take_more_set, drop-drop, drop-set-lt}
 use Rattle.std.proofs.lemmas.Bool.{le-leb, lt-leb}
+use Rattle.machine.specs.Every.{Every, every_push}
 use Rattle.machine.specs.Limits.{node_limit}
 use Rattle.machine.specs.Programs.{Prog}
 use Rattle.machine.specs.Runs.{entry_of}
@@ -29,7 +28,7 @@ pub record Rounding {Fact : Type 0} (v : FactsOf Fact) (m : MovesOf Fact) (p : P
   pub program : q ≡ changed_by_all p (listed made changes)
   pub made_all : listed made changes ++ (decided v m p facts (length p.entries - i) i (length q.entries)).made ≡ (verdicts_by v m p facts).made
   pub short_all : short + (decided v m p facts (length p.entries - i) i (length q.entries)).short ≡ (verdicts_by v m p facts).short
-  pub forms : AllByRecursion (λ c. in_form c ≡ true) (take made changes)
+  pub forms : Every (λ c. in_form c ≡ true) (take made changes)
   pub rest : drop made changes ≡ drop made list
   pub long : length changes ≡ length list
   pub old : (k : ℕ) → i ≤ k → k < length p.entries → entry_of q k ≡ entry_of p k
@@ -119,7 +118,7 @@ module _ {Fact : Type 0} (v : FactsOf Fact) (m : MovesOf Fact) (p : Prog) (facts
           made_all = ap (λ l. l ++ (rest (length q'.entries)).made) longer ∙ append_assoc (listed made changes) (replacement_of c ∷ []) (rest (length q'.entries)).made
               ∙ ap (λ r. listed made changes ++ r.made) (sym after) ∙ was.made_all;
           short_all = ap (λ r. short + r.short) (sym after) ∙ was.short_all;
-          forms = subst (AllByRecursion (λ x. in_form x ≡ true)) (sym put) (All-push (λ x. in_form x ≡ true) (take made changes) c was.forms form);
+          forms = subst (Every (λ x. in_form x ≡ true)) (sym put) (every_push (λ x. in_form x ≡ true) (take made changes) c was.forms form);
           rest = drop-set-lt (made + 1) changes made c (omega arith) ∙ sym (drop-drop 1 made changes) ∙ ap (drop 1) was.rest ∙ drop-drop 1 made list;
           long = length-set changes made c ∙ was.long;
           old = λ k far under.
@@ -146,7 +145,7 @@ module _ {Fact : Type 0} (v : FactsOf Fact) (m : MovesOf Fact) (p : Prog) (facts
       program = was.program ∙ ap (changed_by_all p) made_is;
       lists = record {
         entries = ap (λ n. listed n changes) (sym made_counts) ∙ made_is;
-        forms = subst (λ n. AllByRecursion (λ c. in_form c ≡ true) (take n changes)) made_counts was.forms;
+        forms = subst (λ n. Every (λ c. in_form c ≡ true) (take n changes)) made_counts was.forms;
         rest = subst (λ n. drop n changes ≡ drop n list) made_counts was.rest;
       };
     }

@@ -1,9 +1,8 @@
 -- Changes in form make a program again.
 use Rattle.std.proofs.Common.{◌≡◌, ℕ, zero, suc, ◌+◌, ◌-◌, ◌<◌, ◌≤◌, true, eqb, ltb, List, [], ◌∷◌, ◌++◌, length, get_or, take, sym, refl, ap, ◌∙◌, subst, arith}
-use Rattle.std.specs.List.{AllByRecursion}
-use Rattle.std.proofs.ByRecursion.{All-weaker}
 use Rattle.std.proofs.lemmas.List.{length-append, get_or_past, take_all, set-append_left}
 use Rattle.std.proofs.lemmas.Bool.{and_parts, and_from, eqb-true, ltb-true, lt-ltb}
+use Rattle.machine.specs.Every.{Every, every_weaker}
 use Rattle.machine.specs.declared.node.Entry.{Entry}
 use Rattle.machine.specs.declared.node.Exits.{Exits}
 use Rattle.machine.specs.declared.node.Exits.TheVariants as exits
@@ -71,7 +70,7 @@ module _ (old : Entry) (way count : ℕ) (below : (exit : ℕ) → get_or old.ta
   on_to_below [] next room = below way
   on_to_below (n ∷ ns) next room = omega arith
 
-  laid_sound : (ns : List Node) (next : ℕ) → AllByRecursion Proper ns → next + length ns ≤ count → every_sound count (laid old way ns next) ≡ true
+  laid_sound : (ns : List Node) (next : ℕ) → Every Proper ns → next + length ns ≤ count → every_sound count (laid old way ns next) ≡ true
   laid_sound [] next proper room = refl
   laid_sound (n ∷ ns) next proper room =
       and_from _ _ (leading_sound count old n (on_to old way ns (suc next)) proper.0 (on_to_below ns (suc next) (omega arith)) (below 1))
@@ -135,7 +134,7 @@ change_program p c ok there form room = put_program p ok c.at there c.row c.way 
 -- q is p with some changes made, all of them before `from`
 pub changes_program : (p : Prog) (cs : List Replacement) (from : ℕ) (q : Prog) → IsProgram q → length p.entries ≤ length q.entries →
     ((i : ℕ) → from ≤ i → i < length p.entries → entry_of q i ≡ entry_of p i) →
-    Rising from (length p.entries) cs → AllByRecursion (InForm p) cs → Fitting (length q.entries) cs → IsProgram (changed_by_all q cs)
+    Rising from (length p.entries) cs → Every (InForm p) cs → Fitting (length q.entries) cs → IsProgram (changed_by_all q cs)
 changes_program p [] from q ok big same up forms fitting = ok
 changes_program p (c ∷ cs) from q ok big same up forms fitting =
     let longer = changed_longer q c in
@@ -153,5 +152,5 @@ round_program v m shows p ok =
     let facts = settled_facts v m p in
     let made = decided_made v m p facts count 0 count count (omega arith) in
     changes_program p (verdicts v m p).made 0 p ok (omega arith) (λ i a b. refl) made.rising
-    (All-weaker (Shown v m p facts) (InForm p) (λ c shown. shown.form) (verdicts v m p).made (made_shown v m p facts shows ok count 0 count (omega arith)))
+    (every_weaker (Shown v m p facts) (InForm p) (λ c shown. shown.form) (verdicts v m p).made (made_shown v m p facts shows ok count 0 count (omega arith)))
     made.fitting

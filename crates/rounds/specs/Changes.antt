@@ -1,15 +1,10 @@
 -- Changes of a program: a row in the place of a node.
 use Rattle.std.specs.Prelude.{ℕ, suc, Bool, false, ◌&&◌, List, [], ◌∷◌, ◌++◌, length, take, nat_le, slice_index, slice_set}
-use Rattle.std.specs.Str.{bytes_eq as same_numbers}
-use Rattle.machine.specs.declared.node.BinaryOp.{BinaryOp}
-use Rattle.machine.specs.declared.node.BinaryOp.TheVariants.{Add, Sub, Mul, Div, Rem, And, Or, Xor, Shl, Shr, Eq, Lt}
+use Rattle.machine.specs.contracts.node.NodePartialEq.TheImpl as node_eq
 use Rattle.machine.specs.declared.node.Entry.{Entry}
 use Rattle.machine.specs.declared.node.Exits.{Exits}
 use Rattle.machine.specs.declared.node.Exits.TheVariants as exits
 use Rattle.machine.specs.declared.node.Node.{Node}
-use Rattle.machine.specs.declared.node.Node.TheVariants.{Mov, Binary, In, Out, Ld, St, Br, Skip, Halt, Fail}
-use Rattle.machine.specs.declared.node.Operand.{Operand}
-use Rattle.machine.specs.declared.node.Operand.TheVariants.{Reg, Num}
 use Rattle.machine.specs.Programs.{Prog, prog}
 use Rattle.machine.specs.Runs.{entry_of}
 use Rattle.machine.specs.WellFormed.{is_node, exits_of}
@@ -65,39 +60,9 @@ abbrev pub changed_by_all : Prog → List Replacement → Prog
 changed_by_all p [] = p
 changed_by_all p (c ∷ cs) = changed_by_all (changed_by p c) cs
 
--- a node as numbers, so that two nodes are the same exactly if their numbers are
-abbrev pub operand_parts : Operand → List ℕ
-operand_parts (Reg r) = 0 ∷ r ∷ []
-operand_parts (Num n) = 1 ∷ n ∷ []
-
-abbrev pub op_number : BinaryOp → ℕ
-op_number Add = 0
-op_number Sub = 1
-op_number Mul = 2
-op_number Div = 3
-op_number Rem = 4
-op_number And = 5
-op_number Or = 6
-op_number Xor = 7
-op_number Shl = 8
-op_number Shr = 9
-op_number Eq = 10
-op_number Lt = 11
-
-abbrev pub parts : Node → List ℕ
-parts (Mov to from) = 0 ∷ to ∷ operand_parts from
-parts (Binary op to left right) = 1 ∷ op_number op ∷ to ∷ operand_parts left ++ operand_parts right
-parts (In to) = 2 ∷ to ∷ []
-parts (Out from) = 3 ∷ operand_parts from
-parts (Ld to cell) = 4 ∷ to ∷ cell ∷ []
-parts (St cell from) = 5 ∷ cell ∷ operand_parts from
-parts (Br on) = 6 ∷ operand_parts on
-parts Skip = 7 ∷ []
-parts Halt = 8 ∷ []
-parts (Fail fault) = 9 ∷ fault ∷ []
-
+-- whether two nodes are equal, as the derived `==` tells
 unfoldable pub same_node : Node → Node → Bool
-same_node n m = same_numbers (parts n) (parts m)
+same_node n m = (node_eq.ghosts).eq n m
 
 -- whether a row is just the node itself
 abbrev pub is_itself : Node → List Node → Bool

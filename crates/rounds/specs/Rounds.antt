@@ -1,6 +1,6 @@
 -- A round: a program is settled, and what the pile then proposes is made of it.
 use Rattle.std.specs.Prelude.{◌≡◌, ℕ, zero, suc, ◌+◌, ◌-◌, ◌<◌, ◌≤◌, true, cond, List, [], ◌∷◌, map, length, take, drop, is_some, Some, None, Ok, Err, Option, Result, nat_le}
-use Rattle.std.specs.List.{AllByRecursion}
+use Rattle.machine.specs.Every.{Every}
 use Rattle.machine.specs.declared.node.Node.{Node}
 use Rattle.machine.specs.Limits.{node_limit}
 use Rattle.machine.specs.Programs.{Prog}
@@ -72,7 +72,7 @@ module _ {Fact : Type 0} (v : FactsOf Fact) (m : MovesOf Fact) where
 
     -- the verdicts told without the search: each change made is the one offered at its node, they stand in the order of the nodes, and all that are offered are made or short
     pub record Judges (facts : List Fact) (r : Verdicts) : Type 0 where
-      pub made_offered : AllByRecursion (λ c. offered facts c.at ≡ Some c) r.made
+      pub made_offered : Every (λ c. offered facts c.at ≡ Some c) r.made
       pub ascending : Rising 0 (length p.entries) r.made
       pub all_judged : length r.made + r.short ≡ offers facts (length p.entries) 0
 
@@ -100,7 +100,7 @@ numbered (Err e) = Err (reason_of e)
 -- a change list begins with these changes, each in the form of a proposal for its node, and the rest is as it was
 pub record Lists (made : List Replacement) (before after : List Change) : Type 0 where
   pub entries : map replacement_of (take (length made) after) ≡ made
-  pub forms : AllByRecursion (λ c. in_form c ≡ true) (take (length made) after)
+  pub forms : Every (λ c. in_form c ≡ true) (take (length made) after)
   pub rest : drop (length made) after ≡ drop (length made) before
 
 -- the verdicts are carried out and told

@@ -24,6 +24,7 @@ fn lead(old: Entry, node: Node, next: NodeNumber) -> Entry
     Entry { node, targets }
 }
 
+// Fixed memory: as many entries as a row can have, of which the change tells how many count.
 /// The entries of a row that stands for an old entry: the first takes its place, the others are numbered from `count` on, each leads to the next, and the last to the old target by the way.
 fn lay_out(old: Entry, change: &Change, count: NodeNumber) -> [Entry; ROW_LIMIT]
     requires room { (0 < count) × (count ≤ node_limit) }
@@ -32,13 +33,14 @@ fn lay_out(old: Entry, change: &Change, count: NodeNumber) -> [Entry; ROW_LIMIT]
     ensures { take change.now.len result ≡ laid old change.now.way (replacement_of change.now).row (count - 1) }
 {
     let mut entries = [old; ROW_LIMIT];
-    for i in 0..change.len {
-        let next = if i + 1 < change.len {
+    let row = &change.row[..change.len];
+    for (i, node) in row.iter().enumerate() {
+        let next = if i + 1 < row.len() {
             count + i as NodeNumber
         } else {
             old.targets[change.way as usize]
         };
-        entries[i] = lead(old, change.row[i], next);
+        entries[i] = lead(old, *node, next);
     }
     entries
 }

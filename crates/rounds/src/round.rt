@@ -25,23 +25,22 @@ fn change_at<P: Analysis>(pile: &P, fact: &P::Fact, at: NodeNumber, node: Node) 
     if pile.is_nowhere(fact) {
         return None;
     }
-    let proposal = pile.propose(fact, node);
-    if !proposal.present {
-        return None;
-    }
-    if is_itself(node, &proposal.row[0..proposal.len]) {
+    let proposal = pile.propose(fact, node)?;
+    let nodes = proposal.row.as_slice();
+    if is_itself(node, nodes) {
         return None;
     }
     Some(Change {
         at,
         node,
-        row: proposal.row,
-        len: proposal.len,
+        row: proposal.row.to_array(),
+        len: nodes.len(),
         way: proposal.way,
         set: proposal.set,
     })
 }
 
+// The pair is taken apart by name at its one call.
 /// Asks for a change at each node in turn, makes and lists those for which there is room, and tells how many were made and how many were not.
 fn change_nodes<P: Analysis>(
     pile: &P,
@@ -55,6 +54,7 @@ fn change_nodes<P: Analysis>(
 {
     let mut made = 0;
     let mut short = 0;
+    // The program grows as its old nodes are gone through, so an iterator cannot borrow it.
     for at in 0..program.count() {
         let node = program.entries()[at as usize].node;
         let Some(change) = change_at(pile, &facts[at as usize], at, node) else {
@@ -88,10 +88,7 @@ pub fn round<P: Analysis>(
     if changes.len() < nodes && table.len() >= nodes {
         return Err(RoundRefusal::ShortList { nodes });
     }
-    let visits = match settle(pile, program, table) {
-        Ok(visits) => visits,
-        Err(short) => return Err(RoundRefusal::ShortTable { nodes: short.nodes }),
-    };
+    let visits = settle(pile, program, table)?;
     let (made, short) = change_nodes(pile, &table[0..nodes], program, changes);
     Ok(Counts {
         made,

@@ -2,6 +2,7 @@
 use Rattle.std.proofs.Common.{◌≡◌, ℕ, ◌<◌, List, ◌∷◌, ◌++◌, get_or, drop, Some, None, Ok, Err, codes, Option, Result, sym, ap, ◌∙◌, subst, arith, lit<, Bor, MatchOption}
 use mathlib.Core.List.{tail-eq_of_cons-eq, append_cancel_left}
 use Rattle.std.specs.Str.Parse.{ParsesUnsigned}
+use Rattle.std.specs.Option.{option_map}
 use Rattle.std.specs.Result.{result_ok}
 use Rattle.std.proofs.lemmas.Str.Parse.{parse_plain, not_in_digits}
 use Rattle.std.proofs.lemmas.Str.Pattern.{IsSplitOnceResult, split_after}
@@ -10,7 +11,7 @@ use Rattle.text.proofs.Decimal.{own}
 use Rattle.run.specs.declared.arguments.Argument.{Argument}
 use Rattle.run.specs.declared.arguments.Argument.TheVariants.{Budget, Cell, Input}
 use Rattle.run.specs.declared.arguments.CellWord.{CellWord}
-use Rattle.run.specs.Spelled.{Writes, WritesCell, WritesBudget, Spells, WordRead, BudgetRead}
+use Rattle.run.specs.Spelled.{Writes, WritesCell, WritesBudget, Spells, WordRead, BudgetRead, ArgumentRead}
 
 pub word_read : {E : Type 0} (bs : List ℕ) (r : Result ℕ E) → ParsesUnsigned 32 10 bs r → (get_or bs 0 0 ≡ 43 → ⊥) → WordRead bs (result_ok r)
 word_read {E} bs (Ok v) h p = let q = parse_plain own {E = E} 32 bs (Ok v) h p in (q.0.1, q.0.0, q.0.2, q.1)
@@ -33,3 +34,8 @@ pub none_spelled : (bs : List ℕ) → ((v : ℕ) → WritesBudget bs v → ⊥)
 none_spelled bs b c i (Budget v) h = b v h
 none_spelled bs b c i (Cell s) h = c s h
 none_spelled bs b c i (Input v) h = i v h
+
+-- what is neither a budget nor a cell is an input, if it is a word
+pub input_read : (bs : List ℕ) (word : Option ℕ) (r : Option Argument) → ((v : ℕ) → WritesBudget bs v → ⊥) → ((s : CellWord) → WritesCell bs s → ⊥) → WordRead bs word → r ≡ option_map Input word → ArgumentRead bs r
+input_read bs None r b c w e = subst (ArgumentRead bs) (sym e) (none_spelled bs b c w)
+input_read bs (Some v) r b c w e = subst (ArgumentRead bs) (sym e) w

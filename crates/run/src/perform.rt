@@ -3,7 +3,6 @@ use crate::report::{
     Report, tell_expected, tell_refused_run, tell_refused_text, tell_run, tell_unread,
 };
 use crate::request::{ArgumentError, Request};
-use machine::program::run::CELL_COUNT;
 use session::refusal::Refusal;
 use session::session::Session;
 use std::alloc::AllocError;
@@ -25,6 +24,7 @@ pub enum Failure {
     Untold(io::Error),
 }
 
+// `?` asks for an impl of each error; one for all that become an `io::Error` would overlap with `From<T> for T`.
 impl From<io::Error> for Failure {
     fn from(error: io::Error) -> Failure {
         Failure::Untold(error)
@@ -44,13 +44,10 @@ fn arguments(rt: &HostRuntime) -> Result<Request, ArgumentError> {
 
 /// The request that the program's arguments make.
 fn request(rt: &HostRuntime) -> Result<Request, Failure> {
-    match arguments(rt) {
-        Ok(request) => Ok(request),
-        Err(error) => {
-            tell_expected(rt, &error)?;
-            Err(Failure::Told)
-        }
-    }
+    arguments(rt).or_else(|error| {
+        tell_expected(rt, &error)?;
+        Err(Failure::Told)
+    })
 }
 
 /// Reads a file, but no more of it than shows that it is too long for a text.
@@ -61,13 +58,10 @@ fn read_file(rt: &HostRuntime, file: &str, text: &mut Vec<u8>) -> io::Result<()>
 }
 
 fn read_text(rt: &HostRuntime, file: &str, text: &mut Vec<u8>) -> Result<(), Failure> {
-    match read_file(rt, file, text) {
-        Ok(()) => Ok(()),
-        Err(error) => {
-            tell_unread(rt, file, &error)?;
-            Err(Failure::Told)
-        }
-    }
+    read_file(rt, file, text).or_else(|error| {
+        tell_unread(rt, file, &error)?;
+        Err(Failure::Told)
+    })
 }
 
 /// Reads the requested program, runs it and tells what it did.
@@ -86,34 +80,27 @@ pub(crate) fn perform(rt: &HostRuntime) -> Result<(), Failure> {
         }
         return Err(Failure::Told);
     }
-    let inputs = request.inputs.as_slice();
-    run(rt, session, request.cells, inputs, request.budget)
+    run(rt, session, &request)
 }
 
 /// Runs the session's program on the cells and inputs, and tells what it did.
-fn run(
-    rt: &HostRuntime,
-    session: Session,
-    before: [u32; CELL_COUNT],
-    inputs: &[u32],
-    budget: u32,
-) -> Result<(), Failure> {
-    let mut cells = before;
+fn run(rt: &HostRuntime, session: Session, request: &Request) -> Result<(), Failure> {
+    let inputs = request.inputs.as_slice();
+    let mut cells = request.cells;
     let mut output = vec![in rt.alloc(); 0; OUTPUT_ROOM]?;
-    let outcome = match session.run(&mut cells, inputs, output.as_mut_slice(), budget) {
-        Ok(outcome) => outcome,
-        Err(refusal) => {
+    let outcome = session
+        .run(&mut cells, inputs, output.as_mut_slice(), request.budget)
+        .or_else(|refusal| {
             tell_refused_run(rt, refusal)?;
-            return Err(Failure::Told);
-        }
-    };
+            Err(Failure::Told)
+        })?;
     let nodes = session.close();
     let report = Report {
         nodes,
         outcome,
         inputs,
         output: output.as_slice(),
-        cells_before: &before,
+        cells_before: &request.cells,
         cells_after: &cells,
     };
     tell_run(rt, report)?;

@@ -57,16 +57,14 @@ pub(crate) fn tell_refused_text(
     refusal: TextRefusal,
     word: &[u8],
 ) -> io::Result<()> {
-    let number = refusal.cause.number();
-    let line = refusal.line;
-    let place = refusal.word;
     if word.is_empty() {
-        return println!(rt; "refused {number} line {line} word {place}");
+        return println!(rt; "{refusal}");
     }
     let word = String::from_utf8_lossy(rt.alloc(), word)?;
-    println!(rt; "refused {number} line {line} word {place}: {word}")
+    println!(rt; "{refusal}: {word}")
 }
 
+// Each limit is told in words of its own, which other callers have no use for.
 /// Tells why a call other than the reading of a text is refused.
 pub(crate) fn tell_refused_run(rt: &HostRuntime, refusal: Refusal) -> io::Result<()> {
     let number = refusal.number();

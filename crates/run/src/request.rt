@@ -30,6 +30,7 @@ pub enum ArgumentError {
     Untaken(io::Error),
 }
 
+// Two impls, as for `Failure`, and for the same reason.
 impl From<AllocError> for ArgumentError {
     fn from(error: AllocError) -> ArgumentError {
         ArgumentError::Untaken(io::Error::from(error))
@@ -74,15 +75,11 @@ impl Request {
     /// The request that a program's arguments make, its own name first.
     pub(crate) fn from_arguments(heap: Global, mut words: Args) -> Result<Request, ArgumentError> {
         let _name = words.next();
-        let Some(file) = words.next() else {
-            return Err(ArgumentError::NoFile);
-        };
+        let file = words.next().ok_or(ArgumentError::NoFile)?;
         let mut request = Request::new(heap, file);
         for word in words {
-            match parse_argument(word.as_str()) {
-                Some(argument) => request.put(argument)?,
-                None => return Err(ArgumentError::Wrong(word)),
-            }
+            let argument = parse_argument(word.as_str()).ok_or(ArgumentError::Wrong(word))?;
+            request.put(argument)?;
         }
         Ok(request)
     }

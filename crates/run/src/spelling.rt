@@ -2,8 +2,7 @@
 ghost use Rattle.run.specs.Spelled.{WordRead, CellRead, BudgetRead, ArgumentRead};
 
 use crate::arguments::{Argument, CellWord};
-
-const CELL_COUNT: u32 = 64;
+use machine::program::run::CELL_COUNT;
 
 /// The word that decimal digits write: no sign, and at most 4294967295.
 pub fn parse_word(text: &str) -> Option<u32>
@@ -21,15 +20,12 @@ pub fn parse_cell(text: &str) -> Option<CellWord>
 {
     let rest = text.strip_prefix('c')?;
     let (number, word) = rest.split_once('=')?;
-    let cell = parse_word(number)?;
+    let cell = parse_word(number)? as usize;
     let word = parse_word(word)?;
     if cell >= CELL_COUNT {
         return None;
     }
-    Some(CellWord {
-        cell: cell as usize,
-        word,
-    })
+    Some(CellWord { cell, word })
 }
 
 /// The number of `budget=N`.
@@ -50,8 +46,5 @@ pub fn parse_argument(text: &str) -> Option<Argument>
     if let Some(cell) = parse_cell(text) {
         return Some(Argument::Cell(cell));
     }
-    match parse_word(text) {
-        Some(word) => Some(Argument::Input(word)),
-        None => None,
-    }
+    parse_word(text).map(Argument::Input)
 }

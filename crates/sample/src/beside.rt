@@ -11,7 +11,7 @@ use analysis::proposal::Proposal;
 use machine::node::Node;
 
 /// What both propose for a node where a run starts: just what the other does alone, since the sample proposes nothing.
-pub fn at_start<A: Analysis + Drop>(other: A, node: Node) -> Proposal
+pub fn at_start<A: Analysis + Drop>(other: A, node: Node) -> Option<Proposal>
     ensures { meant result ≡ cond (is_node node) ((A.Analysis.moves other).proposal (A.Analysis.moves other).start node) absent }
 {
     let both = Pair::new(Reached, other);
@@ -19,7 +19,7 @@ pub fn at_start<A: Analysis + Drop>(other: A, node: Node) -> Proposal
 }
 
 /// The sample beside itself proposes nothing.
-pub fn beside_itself() -> Proposal
+pub fn beside_itself() -> Option<Proposal>
     ensures { meant result ≡ absent }
 {
     at_start(Reached, Node::Skip)

@@ -17,6 +17,7 @@ use machine::node::Node;
 #[derive(Clone, Copy)]
 pub struct Reached;
 
+// An impl is for one type: other analyses with such facts have one of their own.
 impl Facts for Reached {
     type Fact = bool;
 
@@ -52,7 +53,7 @@ impl Analysis for Reached {
         *fact
     }
 
-    fn propose(&self, _fact: &bool, _node: Node) -> Proposal {
-        Proposal::ABSENT
+    fn propose(&self, _fact: &bool, _node: Node) -> Option<Proposal> {
+        None
     }
 }

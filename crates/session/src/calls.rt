@@ -41,14 +41,10 @@ impl Session {
         ensures exact { ReadCall text.now (held self.old) result (held self.new) }
         ensures did { Did (calls.read text.now) (held self.old) (held self.new) }
     {
-        match read(text) {
-            Ok(program) => {
-                let nodes = program.count() as usize;
-                self.program = program;
-                Ok(nodes)
-            }
-            Err(refusal) => Err(Refusal::Text(refusal)),
-        }
+        let program = read(text)?;
+        let nodes = program.count() as usize;
+        self.program = program;
+        Ok(nodes)
     }
 
     /// One round with a pile: settles the program, leaves the facts in the front of the table, makes what the pile proposes, and lists it.
@@ -64,10 +60,7 @@ impl Session {
         ensures settles { Settles (P.Facts.facts pile.now) (P.Analysis.moves pile.now) (held self.old) }
         ensures judges { Judges (P.Facts.facts pile.now) (P.Analysis.moves pile.now) (held self.old) (settled_facts (P.Facts.facts pile.now) (P.Analysis.moves pile.now) (held self.old)) (verdicts (P.Facts.facts pile.now) (P.Analysis.moves pile.now) (held self.old)) }
     {
-        match round(pile, &mut self.program, table, changes) {
-            Ok(counts) => Ok(counts),
-            Err(refusal) => Err(Refusal::Round(refusal)),
-        }
+        Ok(round(pile, &mut self.program, table, changes)?)
     }
 
     /// Sends targets past skips, drops the nodes that are then not reached, renumbers the rest in order, and tells how many went.
@@ -88,10 +81,7 @@ impl Session {
         ensures fits { length (printed (held self.now)) ≤ text_limit }
         ensures back { SpellsJust (printed (held self.now)) (held self.now) }
     {
-        match print(&self.program, out) {
-            Ok(len) => Ok(len),
-            Err(due) => Err(Refusal::ShortBuffer { due }),
-        }
+        Ok(print(&self.program, out)?)
     }
 
     /// Runs the program on 64 cells, for at most `budget` steps.
@@ -106,10 +96,7 @@ impl Session {
         ensures begins { LimitedBegins (held self.now) }
         ensures valid { StaysValid (held self.now) }
     {
-        match self.program.run(cells, inputs, output, budget) {
-            Ok(outcome) => Ok(outcome),
-            Err(refusal) => Err(Refusal::Run(refusal)),
-        }
+        Ok(self.program.run(cells, inputs, output, budget)?)
     }
 
     /// Ends the session, and tells the nodes of its program.

@@ -1,13 +1,15 @@
 // Why a call declines.
 ghost use Rattle.std.specs.Prelude.{◌≡◌};
+ghost use Rattle.session.specs.declared.refusal.Refusal.TheVariants.{Text, Run, Round, ShortBuffer};
 ghost use Rattle.session.specs.Refusals.{reason_of};
 
 use machine::outcome::RunRefusal;
+use printer::short_buffer::ShortBuffer;
 use rounds::change::RoundRefusal;
 use text::cause::Cause;
 use text::refusal::TextRefusal;
 
-#[derive(Clone, Copy)]
+#[derive(Clone, Copy, PartialEq, Eq, Debug)]
 pub enum Refusal {
     /// The text is not that of a program.
     Text(TextRefusal),
@@ -20,6 +22,7 @@ pub enum Refusal {
 }
 
 impl Refusal {
+    // The variants hold refusals of their own, so their numbers cannot be discriminants.
     /// The number of the cause.
     pub fn number(self) -> u8
         ensures { result ≡ (reason_of self).number }
@@ -32,5 +35,37 @@ impl Refusal {
             Refusal::Run(RunRefusal::BudgetTooLarge) => 11,
             Refusal::ShortBuffer { .. } => 12,
         }
+    }
+}
+
+impl From<TextRefusal> for Refusal {
+    ghost from_gives = { λ refusal e. e ≡ Text refusal };
+
+    fn from(refusal: TextRefusal) -> Refusal {
+        Refusal::Text(refusal)
+    }
+}
+
+impl From<RunRefusal> for Refusal {
+    ghost from_gives = { λ refusal e. e ≡ Run refusal };
+
+    fn from(refusal: RunRefusal) -> Refusal {
+        Refusal::Run(refusal)
+    }
+}
+
+impl From<RoundRefusal> for Refusal {
+    ghost from_gives = { λ refusal e. e ≡ Round refusal };
+
+    fn from(refusal: RoundRefusal) -> Refusal {
+        Refusal::Round(refusal)
+    }
+}
+
+impl From<ShortBuffer> for Refusal {
+    ghost from_gives = { λ short e. e ≡ ShortBuffer short.due };
+
+    fn from(short: ShortBuffer) -> Refusal {
+        Refusal::ShortBuffer { due: short.due }
     }
 }

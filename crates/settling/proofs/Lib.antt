@@ -1,4 +1,4 @@
-pub mod Worklist
+pub mod Runs
 pub mod NodeSetLaws
 pub mod Lowest
 pub mod Potential
@@ -6,5 +6,5 @@ pub mod Onward
 pub mod Closing
 pub mod Settled
 pub mod Visiting
+pub mod Waiting
 pub mod Going
-pub mod Calls

@@ -1,6 +1,7 @@
 -- The lowest flag that is up, in a list of flags.
-use Rattle.std.proofs.Common.{◌≡◌, ℕ, zero, suc, ◌+◌, ◌<◌, ◌≤◌, Bool, true, false, List, [], ◌∷◌, length, get_or, take, Some, None, Option, refl, suc-le-suc, zero-le, arith}
-use Rattle.std.proofs.lemmas.List.{length-set}
+use Rattle.std.proofs.Common.{◌≡◌, ℕ, zero, suc, ◌+◌, ◌<◌, ◌≤◌, Bool, true, false, List, [], ◌∷◌, length, get_or, take, Some, None, Option, sym, refl, ◌∙◌, suc-le-suc, zero-le, arith}
+use Rattle.std.proofs.lemmas.List.{length-take}
+use lib.Seq.{take-set-lt}
 use Rattle.settling.specs.NodeSets.{lowest, lowest_from, without}
 
 waits_from : (k : ℕ) (fs : List Bool) (i : ℕ) → lowest_from k fs ≡ Some i → (j : ℕ) × (i ≡ k + j) × (j < length fs) × (get_or fs j false ≡ true)
@@ -40,6 +41,10 @@ front_from k (suc n) (false ∷ fs) down = front_from (k + 1) n fs (λ i h. down
 pub lowest_front : (n : ℕ) (fs : List Bool) → ((k : ℕ) → n ≤ k → get_or fs k false ≡ false) → lowest (take n fs) ≡ lowest fs
 lowest_front n fs down = front_from 0 n fs down
 
-pub length_without : (r : Option ℕ) (fs : List Bool) → length (without r fs) ≡ length fs
-length_without None fs = refl
-length_without (Some i) fs = length-set fs i false
+-- taking it from the first n is taking it from all
+pub without_front : (n : ℕ) (fs : List Bool) → ((k : ℕ) → n ≤ k → get_or fs k false ≡ false) → (r : Option ℕ) → r ≡ lowest fs → take n (without r fs) ≡ without r (take n fs)
+without_front n fs down None is = refl
+without_front n fs down (Some i) is =
+    let waits = lowest_waits (take n fs) i (lowest_front n fs down ∙ sym is) in
+    let short = length-take n fs in
+    take-set-lt n fs i false (omega (arith, waits.0))

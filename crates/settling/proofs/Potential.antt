@@ -1,7 +1,7 @@
 -- Why settling ends: how far the facts can still rise, and the nodes that wait, together fall with each visit.
 use Rattle.std.proofs.Common.{◌≡◌, ℕ, zero, suc, ◌+◌, ◌-◌, ◌*◌, ◌<◌, ◌≤◌, Bool, true, false, List, [], ◌∷◌, length, get_or, set, replicate, refl, ap, arith}
 use Rattle.analysis.specs.Facts.{FactsOf}
-use Rattle.settling.specs.Settling.{Work}
+use Rattle.settling.specs.Worklist.{Worklist}
 
 -- how many wait
 abbrev pub waiters : List Bool → ℕ
@@ -42,5 +42,5 @@ module _ {Fact : Type 0} (v : FactsOf Fact) where
   room_replicate zero f low = omega arith
   room_replicate (suc n) f low = let h = room_replicate n f low in omega arith
 
-  abbrev pub potential : Work Fact → ℕ
-  potential w = room w.facts + waiters w.waiting
+  abbrev pub potential : Worklist Fact → ℕ
+  potential w = room w.items + waiters w.waiting

@@ -1,28 +1,31 @@
 -- Settling comes to rest, and its facts allow every state that a run brings.
-use Rattle.std.proofs.Common.{◌≡◌, ℕ, zero, suc, ◌*◌, ◌<◌, ◌≤◌, false, List, [], length, get_or, replicate, Some, None, Option, sym, refl, ap, ◌∙◌, subst, arith, rules}
+use Rattle.std.proofs.Common.{◌≡◌, ℕ, zero, suc, ◌*◌, ◌<◌, ◌≤◌, false, List, [], length, get_or, replicate, Some, None, Option, sym, refl, ap, ◌∙◌, subst, arith}
 use Rattle.std.proofs.lemmas.List.{length-replicate, get_or-replicate}
+use Rattle.std.proofs.lemmas.List.Elements.{All-nil, All-replicate}
 use Rattle.std.specs.Option.{option_map}
 use Rattle.machine.specs.Laws.{ValidAt}
+use Rattle.machine.specs.Limits.{word_limit}
 use Rattle.machine.specs.Programs.{Prog, IsProgram}
 use Rattle.machine.specs.Runs.{Config, running, ended, entry_of, follow, step, after, start, fresh}
-use Rattle.machine.specs.State.{Valid}
 use Rattle.machine.specs.Step.{Effect, leaves, ends, act}
-use Rattle.machine.proofs.Validity.{valid_run, step_valid}
+use Rattle.machine.proofs.Validity.{fresh_valid, valid_run, step_valid}
 use Rattle.analysis.specs.Analyses.{MovesOf, MovesShow}
 use Rattle.analysis.specs.Facts.{FactsOf, FactsShow, state}
 use Rattle.settling.specs.NodeSets.{lowest}
-use Rattle.settling.specs.Settling.{Work, fact_at, begun, opening, visited, next, settled, settled_facts, AllowsRuns, Settles}
+use Rattle.settling.specs.Settling.{fact_at, begun, opening, visited, next, settled, settled_facts, AllowsRuns, Settles}
+use Rattle.settling.specs.Worklist.{Worklist}
 use Rattle.settling.proofs.Closing.{Closed, Closing, closing_starts, closing_visits, visited_less}
 use Rattle.settling.proofs.Lowest.{lowest_waits, lowest_rests}
 use Rattle.settling.proofs.Potential.{potential, room_set, room_replicate, waiters_raise, none_waits}
-use Rattle.settling.proofs.Worklist.{only_outcome, run_out}
+use Rattle.settling.proofs.Runs.{only_outcome, run_out}
 
 module _ {Fact : Type 0} (v : FactsOf Fact) (m : MovesOf Fact) (shown : FactsShow v) (sound : MovesShow v m) (p : Prog) (ok : IsProgram p) where
   -- some state is one in which a run starts, so start is above nowhere
   start_rank : v.rank m.start ≡ 0 → ⊥
   start_rank low =
       let s = fresh (replicate 64 0) [] in
-      let valid : Valid s = record { eight = refl; sixty_four = refl; regs_fit = search rules; cells_fit = search rules; inputs_fit = tt; written_fit = tt } in
+      let word = λ (w : ℕ). w < word_limit in
+      let valid = fresh_valid (replicate 64 0) [] refl (All-replicate word 64 0 (omega arith)) (All-nil word) in
       shown.empty m.start (state s) low (sound.start s valid (refl, refl))
 
   -- what start has risen pays for the first visit
@@ -43,22 +46,22 @@ module _ {Fact : Type 0} (v : FactsOf Fact) (m : MovesOf Fact) (shown : FactsSho
       omega arith
 
   -- the visit of the lowest waiting node
-  pub visit_step : (n : ℕ) (w : Work Fact) → Some n ≡ lowest w.waiting → next v m p w ≡ Some (visited v m p n w)
+  pub visit_step : (n : ℕ) (w : Worklist Fact) → Some n ≡ lowest w.waiting → next v m p w ≡ Some (visited v m p n w)
   unfolding next
   visit_step n w low = ap (option_map (λ k. visited v m p k w)) (sym low)
 
-  pub none_left : (w : Work Fact) → None ≡ lowest w.waiting → next v m p w ≡ None
+  pub none_left : (w : Worklist Fact) → None ≡ lowest w.waiting → next v m p w ≡ None
   unfolding next
   none_left w none = ap (option_map (λ k. visited v m p k w)) (sym none)
 
-  pub visit_keeps : (n : ℕ) (w : Work Fact) → Closing v p w → Some n ≡ lowest w.waiting
+  pub visit_keeps : (n : ℕ) (w : Worklist Fact) → Closing v p w → Some n ≡ lowest w.waiting
       → Closing v p (visited v m p n w) × (potential v (visited v m p n w) < potential v w)
   visit_keeps n w was low =
       let waits = lowest_waits w.waiting n (sym low) in
       let there : n < length p.entries = let e = was.flags in let b = waits.0 in omega arith in
       (closing_visits v m shown sound p ok n there w was, visited_less v m shown sound p ok n there w was.long was.flags waits.1)
 
-  next_keeps : (w u : Work Fact) → Closing v p w → next v m p w ≡ Some u → Closing v p u × (potential v u < potential v w)
+  next_keeps : (w u : Worklist Fact) → Closing v p w → next v m p w ≡ Some u → Closing v p u × (potential v u < potential v w)
   unfolding next
   next_keeps w u was steps = go (lowest w.waiting) refl steps
     where
@@ -68,7 +71,7 @@ module _ {Fact : Type 0} (v : FactsOf Fact) (m : MovesOf Fact) (shown : FactsSho
           let same : visited v m p n w ≡ u = cc in
           subst (λ x. Closing v p x × (potential v x < potential v w)) same (visit_keeps n w was (sym e))
 
-  next_none : (w : Work Fact) → next v m p w ≡ None → lowest w.waiting ≡ None
+  next_none : (w : Worklist Fact) → next v m p w ≡ None → lowest w.waiting ≡ None
   unfolding next
   next_none w steps = go (lowest w.waiting) steps
     where
@@ -95,13 +98,13 @@ module _ {Fact : Type 0} (v : FactsOf Fact) (m : MovesOf Fact) (shown : FactsSho
     after_allowed zero c valid allowed = allowed
     after_allowed (suc n) c valid allowed = after_allowed n (step p c) (step_valid p ok c valid) (step_allowed c valid allowed)
 
-  closing_allows : (w : Work Fact) → Closing v p w → ((i : ℕ) → get_or w.waiting i false ≡ false) → AllowsRuns v p w.facts
+  closing_allows : (w : Worklist Fact) → Closing v p w → ((i : ℕ) → get_or w.waiting i false ≡ false) → AllowsRuns v p w.items
   unfolding AllowedAt
   closing_allows w was rests cells inputs given steps n s comes =
       let valid = valid_run p ok cells inputs given.0 given.1 given.2 0 in
       let begins = was.begins (fresh cells inputs) valid.1 (refl, refl) in
-      let there = after_allowed w.facts (λ i below. was.closed i below (rests i)) steps (start p cells inputs) valid begins in
-      subst (AllowedAt w.facts (λ i below. was.closed i below (rests i))) comes there
+      let there = after_allowed w.items (λ i below. was.closed i below (rests i)) steps (start p cells inputs) valid begins in
+      subst (AllowedAt w.items (λ i below. was.closed i below (rests i))) comes there
 
   -- where settling ends, none waits and each node that does not wait is closed
   settled_out : (next v m p (settled v m p).last ≡ None) × Closing v p (settled v m p).last × ((settled v m p).steps ≤ length p.entries * v.height)

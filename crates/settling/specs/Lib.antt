@@ -1,3 +1,4 @@
 pub mod Worklist
 pub mod NodeSets
 pub mod Settling
+pub mod Working

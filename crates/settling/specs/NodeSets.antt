@@ -1,5 +1,5 @@
 -- A set of node numbers as a flag for each number.
-use Rattle.std.specs.Prelude.{ℕ, zero, suc, ◌+◌, ◌/◌, ◌%◌, Bool, true, false, List, [], ◌∷◌, ◌++◌, Some, None, Option, ◌==◌, slice_set}
+use Rattle.std.specs.Prelude.{◌≡◌, ℕ, zero, suc, ◌+◌, ◌/◌, ◌%◌, ◌≤◌, Bool, true, false, List, [], ◌∷◌, ◌++◌, Some, None, Option, ◌==◌, slice_index_or, slice_set}
 use Rattle.settling.specs.declared.node_set.NodeSet.{NodeSet}
 
 -- the n lowest bits of a word, the lowest first
@@ -28,3 +28,7 @@ lowest flags = lowest_from 0 flags
 abbrev pub without : Option ℕ → List Bool → List Bool
 without None flags = flags
 without (Some i) flags = slice_set flags i false
+
+-- no number waits but those of nodes
+abbrev pub Within : ℕ → NodeSet → Type 0
+Within nodes waiting = (k : ℕ) → nodes ≤ k → slice_index_or (flags waiting) k false ≡ false

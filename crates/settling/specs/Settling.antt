@@ -1,5 +1,5 @@
 -- Settling: Kildall's procedure, for any analysis.
-use Rattle.std.specs.Prelude.{◌≡◌, ℕ, ◌-◌, ◌*◌, ◌^◌, ◌≤◌, min, Bool, true, false, cond, List, [], ◌∷◌, ◌++◌, length, take, drop, replicate, Ok, Err, Option, Result, nat_le, slice_index, slice_index_or, slice_set}
+use Rattle.std.specs.Prelude.{◌≡◌, ℕ, ◌-◌, ◌*◌, ◌^◌, ◌≤◌, min, true, false, cond, List, [], ◌∷◌, ◌++◌, length, drop, replicate, Ok, Err, Option, Result, nat_le, slice_index, slice_index_or, slice_set}
 use Rattle.std.specs.Option.{option_map}
 use Rattle.machine.specs.declared.node.Entry.{Entry}
 use Rattle.machine.specs.declared.node.Exits.{Exits}
@@ -13,26 +13,9 @@ use Rattle.machine.specs.WellFormed.{exits_of}
 use Rattle.analysis.specs.Analyses.{MovesOf}
 use Rattle.analysis.specs.Facts.{FactsOf, state}
 use Rattle.analysis.specs.Pairs.{is_nowhere}
-use Rattle.settling.specs.declared.node_set.NodeSet.{NodeSet}
 use Rattle.settling.specs.declared.settle.ShortTable.{ShortTable}
-use Rattle.settling.specs.NodeSets.{flags, lowest}
-use Rattle.settling.specs.Worklist.{Ended, run, OnlyOutcome}
-
--- a fact for each node, and whether it waits
-pub record Work (Fact : Type 0) : Type 0 where
-  pub facts : List Fact
-  pub waiting : List Bool
-
-abbrev pub work : {Fact : Type 0} → List Fact → List Bool → Work Fact
-work facts waiting = record { facts = facts; waiting = waiting }
-
--- the work as the code holds it: the flags of a set, as far as there are nodes
-abbrev pub work_of : {Fact : Type 0} → List Fact → NodeSet → Work Fact
-work_of facts waiting = work facts (take (length facts) (flags waiting))
-
--- no number waits but those of nodes
-abbrev pub Within : ℕ → NodeSet → Type 0
-Within nodes waiting = (k : ℕ) → nodes ≤ k → slice_index_or (flags waiting) k false ≡ false
+use Rattle.settling.specs.NodeSets.{lowest}
+use Rattle.settling.specs.Worklist.{Worklist, worklist, Ended, run, OnlyOutcome}
 
 module _ {Fact : Type 0} (v : FactsOf Fact) where
   abbrev pub fact_at : List Fact → ℕ → Fact
@@ -45,47 +28,47 @@ module _ {Fact : Type 0} (v : FactsOf Fact) where
       unlimited p cells inputs steps ≡ running n s → v.allows (fact_at facts n) (state s)
 
   -- g is joined into the fact of node t, which waits if its fact rose
-  unfoldable pub joined_at : ℕ → Fact → Work Fact → Work Fact
+  unfoldable pub joined_at : ℕ → Fact → Worklist Fact → Worklist Fact
   joined_at t g w =
-      work (slice_set w.facts t (v.joined (fact_at w.facts t) g))
-      (cond (v.rises (fact_at w.facts t) g) (slice_set w.waiting t true) w.waiting)
+      worklist (slice_set w.items t (v.joined (fact_at w.items t) g))
+      (cond (v.rises (fact_at w.items t) g) (slice_set w.waiting t true) w.waiting)
 
   -- g comes to node t: it is joined into the fact there, unless it is nowhere
-  unfoldable pub arrived_at : ℕ → Fact → Work Fact → Work Fact
+  unfoldable pub arrived_at : ℕ → Fact → Worklist Fact → Worklist Fact
   arrived_at t g w = cond (is_nowhere v g) w (joined_at t g w)
 
 module _ {Fact : Type 0} (v : FactsOf Fact) (m : MovesOf Fact) where
   -- f flows over an exit of the entry, to its target
-  abbrev pub crossed : Entry → Fact → ℕ → Work Fact → Work Fact
+  abbrev pub crossed : Entry → Fact → ℕ → Worklist Fact → Worklist Fact
   crossed entry f exit w = arrived_at v (slice_index entry.targets exit) (m.flow f entry.node exit) w
 
   -- over each exit that there is, exit 0 first
-  abbrev pub over_exits : Exits → Entry → Fact → Work Fact → Work Fact
+  abbrev pub over_exits : Exits → Entry → Fact → Worklist Fact → Worklist Fact
   over_exits exits.None entry f w = w
   over_exits exits.One entry f w = crossed entry f 0 w
   over_exits exits.Two entry f w = crossed entry f 1 (crossed entry f 0 w)
 
   -- all nodes start nowhere; the first gets start and waits
-  unfoldable pub begun : ℕ → ℕ → Work Fact
-  begun nodes first = work (slice_set (replicate nodes v.nowhere) first m.start) (slice_set (replicate nodes false) first true)
+  unfoldable pub begun : ℕ → ℕ → Worklist Fact
+  begun nodes first = worklist (slice_set (replicate nodes v.nowhere) first m.start) (slice_set (replicate nodes false) first true)
 
   -- node n stops waiting and is visited: its fact, as the visit began, flows over its exits
-  unfoldable pub visited : Prog → ℕ → Work Fact → Work Fact
-  visited p n w = over_exits (exits_of (entry_of p n).node) (entry_of p n) (fact_at v w.facts n) (work w.facts (slice_set w.waiting n false))
+  unfoldable pub visited : Prog → ℕ → Worklist Fact → Worklist Fact
+  visited p n w = over_exits (exits_of (entry_of p n).node) (entry_of p n) (fact_at v w.items n) (worklist w.items (slice_set w.waiting n false))
 
   -- the lowest waiting node is visited, if one waits
-  unfoldable pub next : Prog → Work Fact → Option (Work Fact)
+  unfoldable pub next : Prog → Worklist Fact → Option (Worklist Fact)
   next p w = option_map (λ n. visited p n w) (lowest w.waiting)
 
-  abbrev pub opening : Prog → Work Fact
+  abbrev pub opening : Prog → Worklist Fact
   opening p = begun (length p.entries) p.first
 
   -- where settling ends, and after how many visits; as many as nodes times height always suffice (`Settles`)
-  abbrev pub settled : Prog → Ended (Work Fact)
+  abbrev pub settled : Prog → Ended (Worklist Fact)
   settled p = run (next p) (length p.entries * v.height) (opening p)
 
   abbrev pub settled_facts : Prog → List Fact
-  settled_facts p = (settled p).last.facts
+  settled_facts p = (settled p).last.items
 
   -- the visits as they are told: the count stands still at the largest word
   abbrev pub visits_told : Prog → ℕ

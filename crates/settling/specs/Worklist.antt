@@ -1,5 +1,19 @@
--- Work that is done step by step while there is a step to take.
-use Rattle.std.specs.Prelude.{◌≡◌, ℕ, zero, suc, Some, None, Option}
+-- A list of work, and work that is done step by step while there is a step to take.
+use Rattle.std.specs.Prelude.{◌≡◌, ℕ, zero, suc, Bool, List, length, take, Some, None, Option}
+use Rattle.settling.specs.declared.node_set.NodeSet.{NodeSet}
+use Rattle.settling.specs.NodeSets.{flags}
+
+-- an item for each node, and whether it waits
+pub record Worklist (T : Type 0) : Type 0 where
+  pub items : List T
+  pub waiting : List Bool
+
+abbrev pub worklist : {T : Type 0} → List T → List Bool → Worklist T
+worklist items waiting = record { items = items; waiting = waiting }
+
+-- a worklist as the code holds it: the flags of a set, as far as there are nodes
+abbrev pub worklist_of : {T : Type 0} → List T → NodeSet → Worklist T
+worklist_of items waiting = worklist items (take (length items) (flags waiting))
 
 -- where the steps end, and how many there were
 pub record Ended (W : Type 0) : Type 0 where

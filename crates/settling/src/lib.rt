@@ -3,3 +3,5 @@
 
 pub mod node_set;
 pub mod settle;
+mod work;
+pub mod worklist;

@@ -35,11 +35,11 @@ impl NodeSet {
         ensures value { result ≡ lowest (flags self.old) }
         ensures after { flags self.new ≡ without result (flags self.old) }
     {
-        for i in 0..WORD_COUNT {
-            let word = self.words[i];
-            if word != 0 {
-                self.words[i] = word & (word - 1);
-                return Some(64 * i as NodeNumber + word.trailing_zeros() as NodeNumber);
+        for (i, word) in self.words.iter_mut().enumerate() {
+            if *word != 0 {
+                let bit = word.trailing_zeros();
+                *word &= *word - 1;
+                return Some(64 * i as NodeNumber + bit as NodeNumber);
             }
         }
         None

@@ -1,25 +1,22 @@
 -- Decimal numbers: the steps of the loops that read one, and that what is read is what print writes.
-use Rattle.std.proofs.Common.{◌≡◌, ℕ, ◌+◌, ◌-◌, ◌*◌, ◌^◌, ◌<◌, ◌≤◌, Bool, true, false, cond, ◌&&◌, eqb, ltb, List, [], ◌∷◌, length, get_or, drop, Some, None, decimal, Option, sym, refl, ap, ◌∙◌, inl, inr, arith, rules}
+use Rattle.std.proofs.Common.{◌≡◌, ℕ, ◌+◌, ◌-◌, ◌*◌, ◌^◌, ◌<◌, ◌≤◌, Bool, true, false, cond, ◌&&◌, eqb, ltb, List, [], ◌∷◌, length, get_or, drop, Some, None, decimal, Option, MatchOption, sym, refl, ap, ◌∙◌, inl, inr, arith, rules}
+use Rattle.std.specs.List.{list_all}
+use Rattle.std.specs.Option.{ok_or}
 use Rattle.std.specs.Char.{is_ascii_digit}
 use Rattle.std.specs.Str.{all_ascii_digits}
 use Rattle.std.proofs.lemmas.List.{at_drop_more}
 use Rattle.std.proofs.lemmas.Str.Parse.{IsNumeralModel, numerals_by_fold}
 use Rattle.std.proofs.lemmas.Fmt.{decimal-digits_value, digits_decimal, digits_value-decimal, decimal_nonempty, first_decimal, decimal_digit}
 use Rattle.std.proofs.lemmas.Bool.{and_parts, and_from, and_right, and_cases, cases_lt, ne_eqb, lt-ltb, le-ltb, ltb-true, ltb-false, eqb-false}
-use Rattle.text.specs.Numbers.{value_after, value_of, is_numeral, leading_zero, number_fault}
+use Rattle.text.specs.Numbers.{value_after, value_of, is_numeral, leading_zero, number_fault, NumberRead}
+use Rattle.text.specs.declared.cause.Cause.TheVariants.{BadNumber}
 
 pub own : IsNumeralModel (λ ds. all_ascii_digits ds ≡ true) value_of
 own = numerals_by_fold _ (search rules) value_after (search rules)
 
-pub digits_more : (xs : List ℕ) (i : ℕ) → i < length xs → is_ascii_digit (get_or xs i 0) ≡ true → all_ascii_digits (drop (i + 1) xs) ≡ all_ascii_digits (drop i xs)
-digits_more xs i h d = sym (at_drop_more all_ascii_digits xs i 0 h ∙ ap (λ b. b && all_ascii_digits (drop (i + 1) xs)) d)
-
-pub digits_stop : (xs : List ℕ) (i : ℕ) → i < length xs → is_ascii_digit (get_or xs i 0) ≡ false → all_ascii_digits (drop i xs) ≡ false
-digits_stop xs i h d = at_drop_more all_ascii_digits xs i 0 h ∙ ap (λ b. b && all_ascii_digits (drop (i + 1) xs)) d
-
--- the first digit of those left, and the rest
-pub digits_parts : (xs : List ℕ) (i : ℕ) → i < length xs → all_ascii_digits (drop i xs) ≡ true → (is_ascii_digit (get_or xs i 0) ≡ true) × (all_ascii_digits (drop (i + 1) xs) ≡ true)
-digits_parts xs i h d = and_parts (is_ascii_digit (get_or xs i 0)) (all_ascii_digits (drop (i + 1) xs)) (sym (at_drop_more all_ascii_digits xs i 0 h) ∙ d)
+pub digits_all : (ds : List ℕ) → list_all is_ascii_digit ds ≡ all_ascii_digits ds
+digits_all [] = refl
+digits_all (c ∷ cs) = ap (λ b. is_ascii_digit c && b) (digits_all cs)
 
 pub value_more : (n : ℕ) (xs : List ℕ) (i : ℕ) → i < length xs → value_after n (drop i xs) ≡ value_after (n * 10 + (get_or xs i 0 - 48)) (drop (i + 1) xs)
 value_more n xs i h = at_drop_more (value_after n) xs i 0 h
@@ -51,6 +48,14 @@ read_is_written limit w small h =
     let fits : value_of w ≤ limit = ltb-false limit (value_of w) p.2 in
     let first : get_or w 0 0 ≡ 48 → length w ≡ 1 = λ z. elim (and_cases (ltb 1 (length w)) (eqb (get_or w 0 0) 48) p.1) [ inl a ↦ omega (arith, ltb-false 1 (length w) a) | inr b ↦ absurd (eqb-false (get_or w 0 0) 48 b z) ] in
     (sym (decimal-digits_value own w n.1 some first (omega arith)), fits)
+
+-- what the reader of a number answers, past its tests
+pub number_read : (limit : ℕ) (w : List ℕ) (o : Option ℕ) → limit < 2 ^ 32 → is_numeral w ≡ true → leading_zero w ≡ false
+    → MatchOption o (limit < value_of w) (λ v. (v ≡ value_of w) × (v ≤ limit)) → NumberRead limit w (ok_or o BadNumber)
+number_read limit w None small a b h = rw (a, b, lt-ltb limit (value_of w) h)
+number_read limit w (Some v) small a b h =
+    let f : number_fault limit w ≡ None = passes (is_numeral w) (leading_zero w) (ltb limit (value_of w)) a b (le-ltb limit (value_of w) (omega (arith, h.0, h.1))) in
+    (f, (read_is_written limit w small f).0 ∙ ap decimal (sym h.0), h.1)
 
 no_leading : (n : ℕ) → n < 2 ^ 64 → leading_zero (decimal n) ≡ false
 no_leading n h = elim (cases_lt n 10) [

@@ -1,8 +1,7 @@
 -- An entry that fits the text, and one that is sound in a program.
 use Rattle.std.proofs.Common.{◌≡◌, ℕ, ◌<◌, ◌≤◌, true, ◌&&◌, eqb, ltb, List, length, get_or, refl, ap, arith}
-use Rattle.std.specs.List.{AllByRecursion}
-use Rattle.std.proofs.ByRecursion.{All-from_get_or}
 use Rattle.std.proofs.lemmas.Bool.{and_parts, and_from, ltb-true, lt-ltb, eqb-true}
+use Rattle.machine.specs.Every.{Every, every_from_each}
 use Rattle.machine.specs.declared.node.Entry.{Entry}
 use Rattle.machine.specs.declared.node.Exits.{Exits}
 use Rattle.machine.specs.declared.node.Exits.TheVariants as exits
@@ -69,7 +68,7 @@ node_is Halt h = refl
 node_is (Fail fault) h = lt-ltb fault 256 (omega arith)
 
 module _ (count : ℕ) (few : count ≤ node_limit) where
-  targets_fit : (x : Exits) (ts : List ℕ) → length ts ≡ 2 → leads count x ts ≡ true → TargetsFit x ts × AllByRecursion (λ t. t < count) (used_targets x ts)
+  targets_fit : (x : Exits) (ts : List ℕ) → length ts ≡ 2 → leads count x ts ≡ true → TargetsFit x ts × Every (λ t. t < count) (used_targets x ts)
   targets_fit exits.None ts long t =
       let p = and_parts (eqb (get_or ts 0 0) 0) (eqb (get_or ts 1 0) 0) t in
       (two ts 0 0 long (eqb-true (get_or ts 0 0) 0 p.0) (eqb-true (get_or ts 1 0) 0 p.1), tt)
@@ -91,7 +90,7 @@ module _ (count : ℕ) (few : count ≤ node_limit) where
   pub entry_below : (e : Entry) → Sound count e → TargetsBelow count e
   entry_below e good = let p = sound_parts count e good in (targets_fit (exits_of e.node) e.targets p.two p.leads).1
 
-  targets_lead : (x : Exits) (ts : List ℕ) → TargetsFit x ts → AllByRecursion (λ t. t < count) (used_targets x ts) → (length ts ≡ 2) × (leads count x ts ≡ true)
+  targets_lead : (x : Exits) (ts : List ℕ) → TargetsFit x ts → Every (λ t. t < count) (used_targets x ts) → (length ts ≡ 2) × (leads count x ts ≡ true)
   targets_lead exits.None ts h below = (ap length h, rw h)
   targets_lead exits.One ts h below = (
     ap length h.2,
@@ -108,11 +107,11 @@ module _ (count : ℕ) (few : count ≤ node_limit) where
       sound_from count e (record { node = node_is e.node h.0; two = t.0; leads = t.1 })
 
 module _ (p : Prog) (ok : IsProgram p) where
-  all_of : (P : Entry → Type 0) → ((e : Entry) → Sound (length p.entries) e → P e) → AllByRecursion P p.entries
-  all_of P h = All-from_get_or P p.entries blank (λ k below. h (entry_at p.entries k) (ok.sound k below))
+  all_of : (P : Entry → Type 0) → ((e : Entry) → Sound (length p.entries) e → P e) → Every P p.entries
+  all_of P h = every_from_each P p.entries blank (λ k below. h (entry_at p.entries k) (ok.sound k below))
 
-  pub program_fits : AllByRecursion EntryFits p.entries
+  pub program_fits : Every EntryFits p.entries
   program_fits = all_of EntryFits (entry_fits (length p.entries) ok.counted)
 
-  pub program_below : AllByRecursion (TargetsBelow (length p.entries)) p.entries
+  pub program_below : Every (TargetsBelow (length p.entries)) p.entries
   program_below = all_of (TargetsBelow (length p.entries)) (entry_below (length p.entries) ok.counted)

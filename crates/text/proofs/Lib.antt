@@ -6,7 +6,6 @@ pub mod Fits
 pub mod WordLaws
 pub mod RowLaws
 pub mod EntryLaws
-pub mod TrailerLaws
 pub mod TextLaws
 pub mod LineEnds
 pub mod PlaceLaws

@@ -1,16 +1,18 @@
 -- The lines of a text, once those of the nodes are read.
-use Rattle.std.proofs.Common.{◌≡◌, ℕ, ◌+◌, ◌<◌, ◌≤◌, Bool, true, false, cond, ◌&&◌, eqb, ltb, List, [], ◌∷◌, ◌++◌, length, get_or, take, drop, Some, None, sym, ap, ◌∙◌, inl, inr, arith}
+use Rattle.std.proofs.Common.{◌≡◌, ℕ, ◌+◌, ◌<◌, ◌≤◌, Bool, true, false, cond, ◌&&◌, eqb, ltb, List, [], ◌∷◌, ◌++◌, length, get_or, take, Option, MatchOption, Bor, Some, None, Ok, Result, sym, refl, ap, ◌∙◌, inl, inr, arith}
+use Rattle.std.specs.Option.{option_copied}
 use Rattle.std.specs.List.{join_with_byte}
-use Rattle.std.proofs.lemmas.List.{nil_from_length, drop_all, drop_more}
-use Rattle.std.proofs.lemmas.Bool.{and_parts, and_from, and_left, and_right, cases_Bool, cases_lt, eqb-true, eq-eqb, ne_eqb, lt-ltb, le-ltb}
+use Rattle.std.proofs.lemmas.List.{nil_from_length}
+use Rattle.std.proofs.lemmas.Bool.{and_parts, and_from, and_left, and_right, cases_Bool, eqb-true, eq-eqb, ne_eqb, lt-ltb, le-ltb}
 use Rattle.machine.specs.declared.node.Entry.{Entry}
 use Rattle.text.specs.declared.read.parts.Parts.{Parts}
-use Rattle.text.specs.Cuts.{parts, grown, left}
+use Rattle.text.specs.Cuts.{parts, grown, rest_parts, left}
+use Rattle.text.specs.declared.refusal.LineRefusal.{LineRefusal}
 use Rattle.text.specs.Limits.{node_number_limit}
 use Rattle.text.specs.Numbers.{value_of}
 use Rattle.text.specs.Print.{trailer_words}
 use Rattle.text.specs.Rows.{word_fault, row_fault}
-use Rattle.text.specs.LineReads.{node_texts, NodesOk, LinesOk}
+use Rattle.text.specs.LineReads.{node_texts, NodesOk, TrailerRead, LinesOk}
 use Rattle.text.specs.Texts.{words, is_trailer, on_line, lines_fault, trailer_dues, trailer_fault, nothing_left}
 use Rattle.text.proofs.Decimal.{written_is_read}
 use Rattle.text.proofs.TextLaws.{parts_some, join_parts}
@@ -28,18 +30,13 @@ parts_not s c cs =
       | inr f ↦ rw f (and_right (eqb (length (grown c (parts s cs))) 1) (eqb (length (get_or (grown c (parts s cs)) 0 [])) 0) (grown_long c (parts s cs) h))
     ]
 
-module _ (s : ℕ) (text : List ℕ) (at : ℕ) where
-  abbrev rest : List (List ℕ)
-  rest = cond (ltb (length text) at) [] (parts s (drop at text))
+empty_ends : (s : ℕ) (text : List ℕ) → eqb (length text) 0 ≡ nothing_left (parts s text)
+empty_ends s [] = refl
+empty_ends s (c ∷ cs) = ne_eqb (length (c ∷ cs)) 0 (λ e. omega arith) ∙ sym (parts_not s c cs)
 
-  pub at_end : eqb at (length text) ≡ nothing_left rest
-  at_end = elim (cases_lt (length text) at) [
-    | inl past ↦ rw (lt-ltb (length text) at past) (ne_eqb at (length text) (λ e. omega arith))
-    | inr within ↦ rw (le-ltb (length text) at within) (elim (cases_lt at (length text)) [
-      | inl more ↦ rw (drop_more text at 0 more) (ne_eqb at (length text) (λ e. omega arith) ∙ sym (parts_not s (get_or text at 0) (drop (at + 1) text)))
-      | inr none ↦ rw (drop_all at text none) (eq-eqb at (length text) (omega arith))
-    ])
-  ]
+pub at_end : (s : ℕ) (rest : Option (Bor (List ℕ))) (b : Bool) → MatchOption rest (b ≡ false) (λ t. b ≡ eqb (length t.now) 0) → b ≡ nothing_left (rest_parts s (option_copied rest))
+at_end s None b h = h
+at_end s (Some t) b h = h ∙ empty_ends s t.now
 
 pub nothing_left_lem : (ls : List (List ℕ)) → nothing_left ls ≡ true → ls ≡ [] ∷ []
 nothing_left_lem [] h = let z : ◌≡◌ {A = ℕ} 0 1 = cc in absurd (omega arith)
@@ -55,23 +52,20 @@ pub trailer_line : (n : ℕ) (l : List ℕ) (rest : List (List ℕ)) → 0 < len
 trailer_line n l [] h t = absurd (omega arith)
 trailer_line n l (m ∷ ls) h t = rw t
 
-module _ (ls : List (List ℕ)) (s t : Parts) (es : List Entry) (n : ℕ) (l : List ℕ) (ws : List (List ℕ))
-    (all : left s ≡ ls) (ok : NodesOk s es n l t) (cut : ws ≡ words l) where
-  here : lines_fault 0 ls ≡ on_line (n + 1) (row_fault word_fault trailer_dues 1 ws) (trailer_fault n l (left t))
-  here =
-      ap (lines_fault 0) (sym all) ∙ ok.goes_on ∙ trailer_line n l (left t) ok.ended ok.ends
-      ∙ ap (λ v. on_line (n + 1) (row_fault word_fault trailer_dues 1 v) (trailer_fault n l (left t))) (sym cut)
+module _ (ls : List (List ℕ)) (s t : Parts) (es : List Entry) (n : ℕ) (l : List ℕ) (r : Result (ℕ × ℕ) LineRefusal)
+    (all : left s ≡ ls) (ok : NodesOk s es n l t) (read : TrailerRead (words l) r) where
+  here : lines_fault 0 ls ≡ on_line (n + 1) (row_fault word_fault trailer_dues 1 (words l)) (trailer_fault n l (left t))
+  here = ap (lines_fault 0) (sym all) ∙ ok.goes_on ∙ trailer_line n l (left t) ok.ended ok.ends
 
-  pub trailer_stops : (f w : ℕ) → row_fault word_fault trailer_dues 1 ws ≡ Some (f, w) → lines_fault 0 ls ≡ Some (f, t.number, w)
-  trailer_stops f w h =
-      here ∙ ap (λ o. on_line (n + 1) o (trailer_fault n l (left t))) h ∙ ap (λ k. Some (f, k, w)) (sym ok.number)
+  module _ (told first : ℕ) (is : r ≡ Ok (told, first)) where
+    tells : (words l ≡ trailer_words told first) × (row_fault word_fault trailer_dues 1 (words l) ≡ None) × (told ≤ node_number_limit) × (first ≤ node_number_limit)
+    tells = rw is at read
 
-  module _ (told first : ℕ) (tells : ws ≡ trailer_words told first) (none : row_fault word_fault trailer_dues 1 ws ≡ None) (small : told ≤ node_number_limit) where
     past : lines_fault 0 ls ≡ trailer_fault n l (left t)
-    past = here ∙ ap (λ o. on_line (n + 1) o (trailer_fault n l (left t))) none
+    past = here ∙ ap (λ o. on_line (n + 1) o (trailer_fault n l (left t))) tells.1
 
     value_told : value_of (get_or (words l) 1 []) ≡ told
-    value_told = ap (λ (v : List (List ℕ)). value_of (get_or v 1 [])) (sym cut ∙ tells) ∙ (written_is_read node_number_limit told (omega arith) small).1
+    value_told = ap (λ (v : List (List ℕ)). value_of (get_or v 1 [])) tells.0 ∙ (written_is_read node_number_limit told (omega arith) tells.2).1
 
     module _ (ends : nothing_left (left t) ≡ true) where
       count_checked : lines_fault 0 ls ≡ cond (ltb 0 n && eqb (value_of (get_or (words l) 1 [])) n) None (Some (6, n + 1, 2))
@@ -87,9 +81,9 @@ module _ (ls : List (List ℕ)) (s t : Parts) (es : List Entry) (n : ℕ) (l : L
       other_count ne =
           wrong (and_right (ltb 0 n) (eqb (value_of (get_or (words l) 1 [])) n) (ne_eqb (value_of (get_or (words l) 1 [])) n (λ e. ne (sym value_told ∙ e))))
 
-      pub lines_good : (n ≡ 0 → ⊥) → told ≡ n → first ≤ node_number_limit → LinesOk ls es n first
-      lines_good some same first_small =
-          let line : l ≡ join_with_byte 32 (trailer_words n first) = sym (join_parts 32 l) ∙ ap (join_with_byte 32) (sym cut ∙ tells) ∙ ap (λ k. join_with_byte 32 (trailer_words k first)) same in
+      pub lines_good : (n ≡ 0 → ⊥) → told ≡ n → LinesOk ls es n first
+      lines_good some same =
+          let line : l ≡ join_with_byte 32 (trailer_words n first) = sym (join_parts 32 l) ∙ ap (join_with_byte 32) tells.0 ∙ ap (λ k. join_with_byte 32 (trailer_words k first)) same in
           let rest = nothing_left_lem (left t) ends in
           record {
             spelled = sym all ∙ ok.spelled ∙ ap (λ (v : List ℕ). node_texts 0 (take n es) ++ v ∷ left t) line ∙ ap (λ (v : List (List ℕ)). node_texts 0 (take n es) ++ join_with_byte 32 (trailer_words n first) ∷ v) rest;
@@ -97,5 +91,5 @@ module _ (ls : List (List ℕ)) (s t : Parts) (es : List Entry) (n : ℕ) (l : L
             fit = ok.fit;
             small = ok.small;
             some = omega arith;
-            first_small = first_small;
+            first_small = tells.3;
           }

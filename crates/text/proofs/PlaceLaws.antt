@@ -1,66 +1,69 @@
 -- Parts and their places.
-use Rattle.std.proofs.Common.{◌≡◌, ℕ, zero, suc, ◌+◌, ◌-◌, ◌<◌, ◌≤◌, true, ◌&&◌, ltb, List, [], ◌∷◌, length, get_or, take, drop, sym, ap, ◌∙◌, subst, add-one, arith}
-use Rattle.std.proofs.lemmas.List.{length-drop, length-take-le, drop-take, take-take, drop-drop}
-use Rattle.std.proofs.lemmas.Bool.{lt-ltb, and_from}
-use Rattle.text.specs.Cuts.{parts}
-use Rattle.text.specs.PlaceOf.{part_start, PartAt, WordAt, line_of, is_word_at, word_of, word_start}
-use Rattle.text.proofs.Cut.{left_at, cut_step}
+use Rattle.std.proofs.Common.{◌≡◌, ℕ, zero, suc, ◌+◌, ◌-◌, ◌<◌, ◌≤◌, true, false, ◌&&◌, ltb, List, [], ◌∷◌, ◌++◌, length, get_or, take, drop, Some, None, Option, MatchOption, Bor, sym, refl, ap, ◌∙◌, add-one, arith}
+use Rattle.std.specs.Prelude.{unwrap_or}
+use Rattle.std.specs.List.{join_with_byte}
+use Rattle.std.proofs.lemmas.List.{length-drop, length-append, drop-take, take-take, drop-drop, take_at, take_all}
+use Rattle.std.proofs.lemmas.Bool.{lt-ltb, le-ltb, and_from, and_right}
+use Rattle.text.specs.declared.read.parts.Parts.{Parts}
+use Rattle.text.specs.Cuts.{parts, left}
+use Rattle.text.specs.RowReads.{Gives}
+use Rattle.text.specs.PlaceOf.{part_start, WordAt, line_of, is_word_at, word_of}
+use Rattle.text.proofs.TextLaws.{join_parts}
 
 -- the first of what is left
-record Head (ps : List (List ℕ)) (i : ℕ) (w : List ℕ) (more : List (List ℕ)) : Type 0 where
+pub record Head (ps : List (List ℕ)) (i : ℕ) (w : List ℕ) (more : List (List ℕ)) : Type 0 where
   pub within : i < length ps
-  pub first : get_or ps i [] ≡ w
-  pub rest : drop (suc i) ps ≡ more
-  pub start : part_start ps (suc i) ≡ part_start ps i + (length w + 1)
+  pub first : w ≡ get_or ps i []
+  pub rest : more ≡ drop (i + 1) ps
 
-head : (ps : List (List ℕ)) (i : ℕ) (w : List ℕ) (more : List (List ℕ)) → drop i ps ≡ w ∷ more → Head ps i w more
-head [] zero w more h = let z : ◌≡◌ {A = ℕ} 0 1 = cc in absurd (omega arith)
-head [] (suc i) w more h = let z : ◌≡◌ {A = ℕ} 0 1 = cc in absurd (omega arith)
-head (p ∷ ps) zero w more h =
+head_suc : (ps : List (List ℕ)) (i : ℕ) (w : List ℕ) (more : List (List ℕ)) → drop i ps ≡ w ∷ more → (i < length ps) × (w ≡ get_or ps i []) × (more ≡ drop (suc i) ps)
+head_suc [] zero w more h = let z : ◌≡◌ {A = ℕ} 0 1 = cc in absurd (omega arith)
+head_suc [] (suc i) w more h = let z : ◌≡◌ {A = ℕ} 0 1 = cc in absurd (omega arith)
+head_suc (p ∷ ps) zero w more h =
     let e : p ≡ w = cc in
-    record { within = omega arith; first = e; rest = cc; start = omega (arith, ap length e) }
-head (p ∷ ps) (suc i) w more h =
-    let r = head ps i w more h in
-    record { within = omega (arith, r.within); first = r.first; rest = r.rest; start = omega (arith, r.start) }
+    let m : more ≡ ps = cc in
+    (omega arith, sym e, m)
+head_suc (p ∷ ps) (suc i) w more h =
+    let r = head_suc ps i w more h in
+    (omega (arith, r.0), r.1, r.2)
 
--- what the loop keeps
-pub record At (s : ℕ) (text : List ℕ) (i start : ℕ) : Type 0 where
-  pub left : left_at s text start ≡ drop i (parts s text)
-  pub place : start ≡ part_start (parts s text) i
+pub head : (ps : List (List ℕ)) (i : ℕ) (w : List ℕ) (more : List (List ℕ)) → drop i ps ≡ w ∷ more → Head ps i w more
+head ps i w more h =
+    let r = head_suc ps i w more h in
+    record { within = r.0; first = r.1; rest = r.2 ∙ ap (λ k. drop k ps) (sym (add-one i)) }
 
-none_left : (ps : List (List ℕ)) (i : ℕ) → drop i ps ≡ [] → length ps ≤ i
+pub none_left : (ps : List (List ℕ)) (i : ℕ) → drop i ps ≡ [] → length ps ≤ i
 none_left ps i h = omega (arith, length-drop i ps, ap length h)
 
-pub at_end : (s : ℕ) (text : List ℕ) (i n start : ℕ) → At s text i start → length text < start → i ≤ n → length (parts s text) ≤ n
-at_end s text i n start a h l =
-    let e : drop i (parts s text) ≡ [] = sym a.left ∙ rw (lt-ltb (length text) start h) in
-    let b = none_left (parts s text) i e in omega arith
+-- a part of a joined list stands where it should
+record Stands (text : List ℕ) (ps : List (List ℕ)) (i : ℕ) : Type 0 where
+  pub inside : part_start ps i + length (get_or ps i []) ≤ length text
+  pub bytes : take (length (get_or ps i [])) (drop (part_start ps i) text) ≡ get_or ps i []
 
-module _ (s : ℕ) (text : List ℕ) (i start r : ℕ) (rest : List ℕ) (a : At s text i start) (e : rest ≡ drop start text) (h : start ≤ length text) (l : r ≤ length rest)
-    (b : (k : ℕ) → k < r → get_or rest k 0 ≡ s → ⊥) (f : r < length rest → get_or rest r 0 ≡ s) where
-  now : Head (parts s text) i (take (r - 0) rest) (left_at s text (start + (r + 1)))
-  now = head (parts s text) i (take (r - 0) rest) (left_at s text (start + (r + 1))) (sym a.left ∙ cut_step s text start r rest e h l b f)
+drop_past : (w : List ℕ) (s k : ℕ) (rest : List ℕ) → drop (length w + 1 + k) (w ++ s ∷ rest) ≡ drop k rest
+drop_past [] s k rest = let z : 0 + 1 + k ≡ suc k = omega arith in ap (λ j. drop j (s ∷ rest)) z
+drop_past (c ∷ w) s k rest =
+    let z : length (c ∷ w) + 1 + k ≡ suc (length w + 1 + k) = omega arith in
+    ap (λ j. drop j (c ∷ (w ++ s ∷ rest))) z ∙ drop_past w s k rest
 
-  long : length (take (r - 0) rest) ≡ r
-  long = let z : r - 0 ≡ r = omega arith in length-take-le (r - 0) rest (omega arith) ∙ z
+stands_joined : (s : ℕ) (ps : List (List ℕ)) (i : ℕ) → i < length ps → Stands (join_with_byte s ps) ps i
+stands_joined s [] i h = absurd (omega arith)
+stands_joined s (w ∷ []) zero h = record { inside = omega arith; bytes = take_all (length w) w (omega arith) }
+stands_joined s (w ∷ []) (suc i) h = absurd (omega arith)
+stands_joined s (w ∷ v ∷ ps) zero h = record {
+  inside = omega (arith, length-append w (s ∷ join_with_byte s (v ∷ ps)));
+  bytes = take_at w (s ∷ join_with_byte s (v ∷ ps)) (length w) refl;
+}
+stands_joined s (w ∷ v ∷ ps) (suc i) h =
+    let rest = join_with_byte s (v ∷ ps) in
+    let m = stands_joined s (v ∷ ps) i (omega arith) in
+    record {
+      inside = omega (arith, length-append w (s ∷ rest), m.inside);
+      bytes = ap (take (length (get_or (v ∷ ps) i []))) (drop_past w s (part_start (v ∷ ps) i) rest) ∙ m.bytes;
+    }
 
-  pub at_next : At s text (i + 1) (start + (r + 1))
-  at_next = record {
-    left = sym now.rest ∙ ap (λ k. drop k (parts s text)) (sym (add-one i));
-    place = let p : start + (r + 1) ≡ part_start (parts s text) (suc i) = omega (arith, now.start, a.place, long) in p ∙ ap (part_start (parts s text)) (sym (add-one i));
-  }
-
-  pub part_at : PartAt text (parts s text) i start (start + r)
-  part_at =
-      let n : length (get_or (parts s text) i []) ≡ r = ap length now.first ∙ long in
-      let m : start + r - start ≡ r - 0 = omega arith in
-      record {
-        within = now.within;
-        start = a.place;
-        ends = omega arith;
-        bytes = ap (λ k. take k (drop start text)) m ∙ ap (take (r - 0)) (sym e) ∙ sym now.first;
-        inside = omega (arith, ap length e, length-drop start text);
-      }
+stands : (s : ℕ) (text : List ℕ) (i : ℕ) → i < length (parts s text) → Stands text (parts s text) i
+stands s text i h = rw (join_parts s text) at (stands_joined s (parts s text) i h)
 
 -- a part of a part
 inner : (m s k : ℕ) (xs : List ℕ) → s + m ≤ k → take m (drop s (take k xs)) ≡ take m (drop s xs)
@@ -80,23 +83,35 @@ word_true text line word h =
     and_from (ltb 0 line && ltb 0 word) _ (and_from (ltb 0 line) (ltb 0 word) (lt-ltb 0 line h.some_line) (lt-ltb 0 word h.some_word))
     (and_from (ltb (line - 1) (length (parts 10 text))) _ (lt-ltb _ _ h.within_lines) (lt-ltb _ _ h.within_words))
 
--- the word that starts at s and ends at e in the line that starts at a and ends at b
-pub word_at : (text : List ℕ) (line word a b s e : ℕ) → 0 < line → 0 < word → PartAt text (parts 10 text) (line - 1) a b
-    → PartAt (take (b - a) (drop a text)) (parts 32 (take (b - a) (drop a text))) (word - 1) s e
-    → WordAt text line word (take (a + e - (a + s)) (drop (a + s) text))
-word_at text line word a b s e nl nw p q' =
-    let q : PartAt (line_of text line) (parts 32 (line_of text line)) (word - 1) s e = subst (λ l. PartAt l (parts 32 l) (word - 1) s e) p.bytes q' in
-    let m : a + e - (a + s) ≡ e - s = omega arith in
+pub word_at : (text : List ℕ) (line word : ℕ) → IsWord text line word → WordAt text line word (word_of text line word)
+word_at text line word h =
+    let l = line_of text line in
     let w = word_of text line word in
-    let n : length (take (b - a) (drop a text)) ≡ b - a = ap length p.bytes ∙ (let z : length (line_of text line) ≡ b - a = omega (arith, p.ends) in z) in
-    let fits : s + (e - s) ≤ b - a = omega (arith, q'.inside, q.ends) in
-    let r : take (a + e - (a + s)) (drop (a + s) text) ≡ w =
-    ap (λ k. take k (drop (a + s) text)) m ∙ ap (take (e - s)) (sym (drop-drop s a text)) ∙ sym (inner (e - s) s (b - a) (drop a text) fits) ∙ q'.bytes
-    ∙ ap (λ (l : List ℕ). get_or (parts 32 l) (word - 1) []) p.bytes in
-    let long : a + e - (a + s) ≡ length w = omega (arith, q.ends) in
-    let at : a + s ≡ word_start text line word = omega (arith, p.start, q.start) in
-    let t = word_true text line word (record { some_line = nl; some_word = nw; within_lines = p.within; within_words = q.within }) in
-    record {
-      placed = rw t (ap (λ k. take k (drop (a + s) text)) long ∙ ap (λ k. take (length w) (drop k text)) at);
-      is_word = λ _. r;
-    }
+    let a = part_start (parts 10 text) (line - 1) in
+    let b = part_start (parts 32 l) (word - 1) in
+    let p = stands 10 text (line - 1) h.within_lines in
+    let q = stands 32 l (word - 1) h.within_words in
+    let is : take (length w) (drop (a + b) text) ≡ w =
+    ap (take (length w)) (sym (drop-drop b a text)) ∙ sym (inner (length w) b (length l) (drop a text) q.inside)
+    ∙ ap (λ v. take (length w) (drop b v)) p.bytes ∙ q.bytes in
+    record { placed = rw (word_true text line word h) (sym is); is_word = λ _. refl }
+
+-- the part of the line that was found, or an empty part
+pub word_or : (text : List ℕ) (line word : ℕ) (l : List ℕ) (found : Option (Bor (List ℕ))) (none : Bor (List ℕ)) → 0 < line → 0 < word
+    → line - 1 < length (parts 10 text) → l ≡ line_of text line
+    → MatchOption found (length (parts 32 l) ≤ word - 1) (λ w. (word - 1 < length (parts 32 l)) × (w.now ≡ get_or (parts 32 l) (word - 1) []))
+    → none.now ≡ [] → WordAt text line word (unwrap_or found none).now
+word_or text line word l None none nl nw hl e past empty =
+    let p : length (parts 32 (line_of text line)) ≤ word - 1 = rw (← e) past in
+    let f : is_word_at text line word ≡ false = and_right (ltb 0 line && ltb 0 word) _ (and_right (ltb (line - 1) (length (parts 10 text))) _ (le-ltb (word - 1) (length (parts 32 (line_of text line))) p)) in
+    record { placed = rw (f, empty); is_word = λ t. let z : ◌≡◌ {A = ℕ} 0 1 = cc in absurd (omega arith) }
+word_or text line word l (Some w) none nl nw hl e is empty =
+    let q : (word - 1 < length (parts 32 (line_of text line))) × (w.now ≡ word_of text line word) = rw e at is in
+    rw q.1 (word_at text line word (record { some_line = nl; some_word = nw; within_lines = hl; within_words = q.0 }))
+
+-- the next part, or none
+pub next_part : (ps : List (List ℕ)) (i n : ℕ) (s t : Parts) (found : Option (Bor (List ℕ))) → i ≡ n → left s ≡ drop i ps
+    → MatchOption found ((left s ≡ []) × (left t ≡ []) × (t.number ≡ s.number)) (λ w. Gives s w.now t)
+    → MatchOption found (length ps ≤ n) (λ w. (n < length ps) × (w.now ≡ get_or ps n []))
+next_part ps i n s t None same e h = rw (← same) (none_left ps i (sym e ∙ h.0))
+next_part ps i n s t (Some w) same e h = let r = head ps i w.now (left t) (sym e ∙ h.taken) in rw (← same) (r.within, r.first)

@@ -1,8 +1,9 @@
 -- A text whose lines have no fault.
 use Rattle.std.proofs.Common.{◌≡◌, ℕ, ◌+◌, ◌-◌, ◌<◌, ◌≤◌, cond, ltb, List, [], ◌∷◌, ◌++◌, length, get_or, take, Some, None, Option, sym, refl, ap, ◌∙◌, arith}
-use Rattle.std.specs.List.{join_with_byte, AllByRecursion}
+use Rattle.std.specs.List.{join_with_byte}
 use Rattle.std.proofs.lemmas.List.{length-take-le, length-append}
 use Rattle.std.proofs.lemmas.Bool.{lt-ltb, le-ltb}
+use Rattle.machine.specs.Every.{Every, all_from_every}
 use Rattle.machine.specs.declared.node.Entry.{Entry}
 use Rattle.machine.specs.Limits.{node_limit}
 use Rattle.machine.specs.Programs.{Prog, prog, IsProgram, checked}
@@ -29,7 +30,7 @@ passed text short none =
     ap (λ b. cond {A = Option Place} b (Some (1, 0, 0)) (either (lines_fault 0 ps) (targets_fault (length ps - 2) 0 ps))) (le-ltb text_limit (length text) short)
     ∙ ap (λ o. either o (targets_fault (length ps - 2) 0 ps)) none
 
-fit_sound : (n : ℕ) (es : List Entry) → n ≤ node_limit → AllByRecursion EntryFits es → AllByRecursion (TargetsBelow n) es → AllByRecursion (Sound n) es
+fit_sound : (n : ℕ) (es : List Entry) → n ≤ node_limit → Every EntryFits es → Every (TargetsBelow n) es → Every (Sound n) es
 fit_sound n [] few a b = tt
 fit_sound n (e ∷ es) few a b = (fits_sound n few e a.0 b.0, fit_sound n es few a.1 b.1)
 
@@ -62,7 +63,7 @@ module _ (text : List ℕ) (es : List Entry) (n first : ℕ) (short : length tex
         pub is_checked : checked es n first ≡ Some (prog (take n es) first)
         is_checked =
             checked_good es n first ok.small starts
-            (every_from_all n (take n es) (fit_sound n (take n es) ok.small ok.fit (below_all n 0 (take n es) (all_found ∙ none))))
+            (every_from_all n (take n es) (all_from_every (Sound n) (take n es) (fit_sound n (take n es) ok.small ok.fit (below_all n 0 (take n es) (all_found ∙ none)))))
 
         pub prints : printed (prog (take n es) first) ≡ text
         prints =
@@ -96,7 +97,7 @@ module _ (p : Prog) (ok : IsProgram p) where
       ∙ ap (λ b. cond {A = Option Place} b None (Some (7, n + 1, 4))) (lt-ltb p.first n ok.starts)
 
 -- the lines of nodes, and other lines behind them, tell the nodes
-nodes_tell : (m : ℕ) (es fs : List Entry) (t u : List (List ℕ)) → length es ≡ length fs → m + length es ≤ 200 → AllByRecursion EntryFits es → AllByRecursion EntryFits fs
+nodes_tell : (m : ℕ) (es fs : List Entry) (t u : List (List ℕ)) → length es ≡ length fs → m + length es ≤ 200 → Every EntryFits es → Every EntryFits fs
     → node_texts m es ++ t ≡ node_texts m fs ++ u → (es ≡ fs) × (t ≡ u)
 nodes_tell m [] [] t u long few a b e = (refl, e)
 nodes_tell m [] (f ∷ fs) t u long few a b e = absurd (omega arith)

@@ -1,12 +1,12 @@
 -- What is printed has no fault, and is cut into the words that it was made of.
 use Rattle.std.proofs.Common.{◌≡◌, ℕ, ◌+◌, ◌-◌, ◌^◌, ◌<◌, ◌≤◌, true, false, eqb, List, [], ◌∷◌, ◌++◌, length, get_or, take, None, decimal, refl, ap, ◌∙◌, arith, rules}
-use Rattle.std.specs.List.{join_with_byte, AllByRecursion}
+use Rattle.std.specs.List.{join_with_byte}
 use Rattle.std.specs.Char.{is_ascii_digit}
 use Rattle.std.specs.Str.{all_ascii_digits}
 use Rattle.std.proofs.lemmas.Fmt.{digits_decimal}
-use Rattle.std.proofs.ByRecursion.{All-append, All-weaker}
 use Rattle.std.proofs.lemmas.List.{length_push, take_at, get_or_push}
 use Rattle.std.proofs.lemmas.Bool.{and_parts, eq-eqb, ne_eqb}
+use Rattle.machine.specs.Every.{Every, every_append, every_weaker}
 use Rattle.machine.specs.declared.node.Entry.{Entry}
 use Rattle.machine.specs.declared.node.BinaryOp.TheVariants.{Add, Sub, Mul, Div, Rem, And, Or, Xor, Shl, Shr, Eq, Lt}
 use Rattle.text.specs.declared.kind.Kind.{Kind}
@@ -31,7 +31,7 @@ use Rattle.text.proofs.Decimal.{own, written_is_read}
 -- cutting what was joined
 
 abbrev pub Lacks : ℕ → List ℕ → Type 0
-Lacks s w = AllByRecursion (λ b. eqb b s ≡ false) w
+Lacks s w = Every (λ b. eqb b s ≡ false) w
 
 pub parts_front : (s : ℕ) (w rest : List ℕ) → Lacks s w → parts s (w ++ s ∷ rest) ≡ w ∷ parts s rest
 parts_front s [] rest h = rw (eq-eqb s s refl)
@@ -41,7 +41,7 @@ parts_last : (s : ℕ) (w : List ℕ) → Lacks s w → parts s w ≡ w ∷ []
 parts_last s [] h = refl
 parts_last s (c ∷ cs) h = rw (h.0, parts_last s cs h.1)
 
-pub parts_join : (s : ℕ) (ws : List (List ℕ)) → 0 < length ws → AllByRecursion (Lacks s) ws → parts s (join_with_byte s ws) ≡ ws
+pub parts_join : (s : ℕ) (ws : List (List ℕ)) → 0 < length ws → Every (Lacks s) ws → parts s (join_with_byte s ws) ≡ ws
 parts_join s [] n h = absurd (omega arith)
 parts_join s (x ∷ []) n h = parts_last s x h.0
 parts_join s (x ∷ y ∷ ws) n h = parts_front s x (join_with_byte s (y ∷ ws)) h.0 ∙ ap (λ (vs : List (List ℕ)). x ∷ vs) (parts_join s (y ∷ ws) (omega arith) h.1)
@@ -49,10 +49,10 @@ parts_join s (x ∷ y ∷ ws) n h = parts_front s x (join_with_byte s (y ∷ ws)
 -- no word has a space or a line feed
 
 abbrev pub Solid : List ℕ → Type 0
-Solid w = AllByRecursion (λ b. 32 < b) w
+Solid w = Every (λ b. 32 < b) w
 
 pub solid_lacks : (s : ℕ) (w : List ℕ) → s ≤ 32 → Solid w → Lacks s w
-solid_lacks s w le h = All-weaker (λ b. 32 < b) (λ b. eqb b s ≡ false) (λ b l. ne_eqb b s (λ e. omega arith)) w h
+solid_lacks s w le h = every_weaker (λ b. 32 < b) (λ b. eqb b s ≡ false) (λ b l. ne_eqb b s (λ e. omega arith)) w h
 
 digits_solid : (ds : List ℕ) → all_ascii_digits ds ≡ true → Solid ds
 digits_solid [] h = tt
@@ -132,7 +132,7 @@ operand_solid : (x : Operand) → OperandFits x → Solid (operand_word x)
 operand_solid (Reg n) h = (omega arith, decimal_solid n (omega arith))
 operand_solid (Num n) h = (omega arith, decimal_solid n (omega arith))
 
-operands_solid : (n : Node) → NodeFits n → AllByRecursion Solid (operand_words n)
+operands_solid : (n : Node) → NodeFits n → Every Solid (operand_words n)
 operands_solid (Mov to from) h = ((omega arith, decimal_solid to (omega (arith, h.0))), (operand_solid from h.1, tt))
 operands_solid (Binary op to left right) h = ((omega arith, decimal_solid to (omega (arith, h.0))), (operand_solid left h.1, (operand_solid right h.2, tt)))
 operands_solid (In to) h = ((omega arith, decimal_solid to (omega arith)), tt)
@@ -144,7 +144,7 @@ operands_solid Skip h = tt
 operands_solid Halt h = tt
 operands_solid (Fail fault) h = ((omega arith, decimal_solid fault (omega arith)), tt)
 
-exits_solid : (x : Exits) (ts : List ℕ) → TargetsFit x ts → AllByRecursion Solid (exit_words x ts)
+exits_solid : (x : Exits) (ts : List ℕ) → TargetsFit x ts → Every Solid (exit_words x ts)
 exits_solid exits.None ts h = tt
 exits_solid exits.One ts h = ((omega arith, (omega arith, tt)), (rw h.2 (decimal_solid h.0 (omega (arith, h.1))), tt))
 exits_solid exits.Two ts h = ((omega arith, (omega arith, tt)), (rw h.4 (decimal_solid h.0 (omega (arith, h.2))), (rw h.4 (decimal_solid h.1 (omega (arith, h.3))), tt)))
@@ -172,11 +172,11 @@ name_solid kind.Skip = search rules
 name_solid kind.Halt = search rules
 name_solid kind.Fail = search rules
 
-pub entry_solid : (n : ℕ) (e : Entry) → n < 200 → EntryFits e → AllByRecursion Solid (entry_words n e)
+pub entry_solid : (n : ℕ) (e : Entry) → n < 200 → EntryFits e → Every Solid (entry_words n e)
 entry_solid n e l h = (
-  All-append (λ b. 32 < b) (decimal n) (58 ∷ []) (decimal_solid n (omega arith)) (omega arith, tt),
+  every_append (λ b. 32 < b) (decimal n) (58 ∷ []) (decimal_solid n (omega arith)) (omega arith, tt),
   (
     name_solid (kind_of e.node),
-    All-append Solid (operand_words e.node) (exit_words (exits_of e.node) e.targets) (operands_solid e.node h.0) (exits_solid (exits_of e.node) e.targets h.1),
+    every_append Solid (operand_words e.node) (exit_words (exits_of e.node) e.targets) (operands_solid e.node h.0) (exits_solid (exits_of e.node) e.targets h.1),
   ),
 )

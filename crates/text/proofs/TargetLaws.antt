@@ -1,6 +1,6 @@
 -- The targets of a text's lines, told by the entries that the lines spell.
 use Rattle.std.proofs.Common.{◌≡◌, ℕ, ◌+◌, ◌-◌, ◌<◌, ◌≤◌, Bool, true, false, cond, ltb, List, [], ◌∷◌, ◌++◌, length, get_or, Some, None, codes, decimal, Option, refl, ap, ◌∙◌, inl, inr, arith}
-use Rattle.std.specs.List.{join_with_byte, AllByRecursion}
+use Rattle.std.specs.List.{join_with_byte}
 use Rattle.std.specs.Str.{bytes_eq}
 use Rattle.std.proofs.lemmas.List.{length-append}
 use Rattle.machine.specs.declared.node.Entry.{Entry}
@@ -20,6 +20,7 @@ use Rattle.text.proofs.KindLaws.{kind_exits_lem, kind_known}
 use Rattle.text.proofs.Telling.{number_back}
 use Rattle.text.proofs.Whole.{entry_cut, entry_no_trailer, trailer_cut}
 use Rattle.std.proofs.lemmas.Bool.{cases_Bool, lt-ltb, ltb-true}
+use Rattle.machine.specs.Every.{Every}
 
 abbrev seventh : Option ℕ → Option (ℕ × ℕ)
 seventh None = None
@@ -95,7 +96,7 @@ module _ (n : ℕ) where
   on_entry_lem m None b more = refl
   on_entry_lem m (Some w) b more = refl
 
-  nodes_targets : (m : ℕ) (es : List Entry) (rest : List (List ℕ)) → m + length es ≤ 200 → 0 < length rest → AllByRecursion EntryFits es
+  nodes_targets : (m : ℕ) (es : List Entry) (rest : List (List ℕ)) → m + length es ≤ 200 → 0 < length rest → Every EntryFits es
       → targets_fault n m (node_texts m es ++ rest) ≡ refused7 (bad_targets n m es) (targets_fault n (m + length es) rest)
   nodes_targets m [] rest few some a = ap (λ k. targets_fault n k rest) (let z : m ≡ m + 0 = omega arith in z)
   nodes_targets m (x ∷ es) rest few some a =
@@ -127,7 +128,7 @@ length_texts m [] = refl
 length_texts m (e ∷ es) = let h = length_texts (m + 1) es in omega arith
 
 -- the targets of n nodes' lines and of the trailer that tells n
-pub lines_targets : (es : List Entry) (n first : ℕ) (ls : List (List ℕ)) → length es ≡ n → n ≤ 200 → first ≤ 255 → AllByRecursion EntryFits es
+pub lines_targets : (es : List Entry) (n first : ℕ) (ls : List (List ℕ)) → length es ≡ n → n ≤ 200 → first ≤ 255 → Every EntryFits es
     → ls ≡ node_texts 0 es ++ join_with_byte 32 (trailer_words n first) ∷ [] ∷ []
     → targets_fault (length ls - 2) 0 ls ≡ refused7 (bad_targets n 0 es) (cond (ltb first n) None (Some (7, n + 1, 4)))
 lines_targets es n first ls long few f a is =
@@ -140,18 +141,18 @@ lines_targets es n first ls long few f a is =
     ∙ ap (refused7 (bad_targets n 0 es)) (trailer_targets n n n first (omega arith) f)
 
 -- no target is bad: each is below the number of nodes
-below_none : (count at : ℕ) (ts : List ℕ) → AllByRecursion (λ t. t < count) ts → first_not_below count at ts ≡ None
+below_none : (count at : ℕ) (ts : List ℕ) → Every (λ t. t < count) ts → first_not_below count at ts ≡ None
 below_none count at [] a = refl
 below_none count at (t ∷ ts) a = rw (lt-ltb t count a.0) (below_none count (at + 1) ts a.1)
 
-none_below : (count at : ℕ) (ts : List ℕ) → first_not_below count at ts ≡ None → AllByRecursion (λ t. t < count) ts
+none_below : (count at : ℕ) (ts : List ℕ) → first_not_below count at ts ≡ None → Every (λ t. t < count) ts
 none_below count at [] = λ e. tt
 none_below count at (t ∷ ts) = elim (cases_Bool (ltb t count)) [
   | inl b ↦ rw b (λ e. (ltb-true t count b, none_below count (at + 1) ts e))
   | inr b ↦ rw b (λ e. let z : ◌≡◌ {A = ℕ} 0 1 = cc in absurd (omega arith))
 ]
 
-pub all_below : (count m : ℕ) (es : List Entry) → AllByRecursion (TargetsBelow count) es → bad_targets count m es ≡ None
+pub all_below : (count m : ℕ) (es : List Entry) → Every (TargetsBelow count) es → bad_targets count m es ≡ None
 all_below count m [] a = refl
 all_below count m (e ∷ es) a = rw (below_none count (length (operand_words e.node) + 4) (used_targets (exits_of e.node) e.targets) a.0) (all_below count (m + 1) es a.1)
 
@@ -159,7 +160,7 @@ on_none : (m : ℕ) (o : Option ℕ) (b : Option (ℕ × ℕ)) → on_entry m o 
 on_none m None b e = (refl, e)
 on_none m (Some w) b e = let z : ◌≡◌ {A = ℕ} 0 1 = cc in absurd (omega arith)
 
-pub below_all : (count m : ℕ) (es : List Entry) → bad_targets count m es ≡ None → AllByRecursion (TargetsBelow count) es
+pub below_all : (count m : ℕ) (es : List Entry) → bad_targets count m es ≡ None → Every (TargetsBelow count) es
 below_all count m [] e = tt
 below_all count m (x ∷ es) e =
     let p = on_none m (bad_target count x) (bad_targets count (m + 1) es) e in

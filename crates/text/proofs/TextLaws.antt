@@ -1,13 +1,16 @@
 -- Lines, one after another.
-use Rattle.std.proofs.Common.{◌≡◌, ℕ, ◌+◌, ◌<◌, ◌≤◌, false, cond, eqb, ltb, List, [], ◌∷◌, ◌++◌, length, take, drop, set, Some, None, sym, refl, ap, ◌∙◌, inl, inr, append_assoc, arith}
-use Rattle.std.specs.List.{join_with_byte, AllByRecursion}
-use Rattle.std.proofs.ByRecursion.{All-push}
+use Rattle.std.proofs.Common.{◌≡◌, ℕ, ◌+◌, ◌<◌, ◌≤◌, Bool, true, false, not, eqb, List, [], ◌∷◌, ◌++◌, length, take, set, Option, Bor, Some, None, Ok, Result, sym, refl, ap, ◌∙◌, inl, inr, append_assoc, arith}
+use Rattle.std.specs.Option.{is_some, option_copied}
+use Rattle.std.specs.List.{join_with_byte}
 use Rattle.std.proofs.lemmas.List.{take_more_set, length-take-le, length-set}
 use Rattle.std.proofs.lemmas.Bool.{cases_Bool, eqb-true, eqb-false, ne_eqb}
+use Rattle.machine.specs.Every.{Every, every_push}
 use Rattle.machine.specs.declared.node.Entry.{Entry}
 use Rattle.text.specs.declared.read.parts.Parts.{Parts}
-use Rattle.text.specs.Cuts.{parts, grown, left}
-use Rattle.text.specs.Entries.{EntryFits}
+use Rattle.text.specs.Cuts.{parts, grown, rest_parts, left}
+use Rattle.text.specs.declared.refusal.LineRefusal.{LineRefusal}
+use Rattle.text.specs.Entries.{EntryFits, EntryRead}
+use Rattle.text.specs.RowReads.{Gives}
 use Rattle.text.specs.Print.{entry_words}
 use Rattle.text.specs.Rows.{node_fault}
 use Rattle.text.specs.LineReads.{node_texts}
@@ -24,13 +27,12 @@ parts_some s (c ∷ cs) =
     let h = parts_some s cs in
     elim (cases_Bool (eqb c s)) [ inl t ↦ rw t (omega arith) | inr f ↦ rw f (grown_some c (parts s cs) h) ]
 
--- no part is left just past the end
-pub done : (s : ℕ) (text : List ℕ) (at : ℕ) → ltb (length text) at ≡ eqb (length (cond {A = List (List ℕ)} (ltb (length text) at) [] (parts s (drop at text)))) 0
-done s text at =
-    elim (cases_Bool (ltb (length text) at)) [
-      | inl t ↦ rw t
-      | inr f ↦ rw f (let h = parts_some s (drop at text) in sym (ne_eqb (length (parts s (drop at text))) 0 (λ e. omega arith)))
-    ]
+-- no part is left where nothing stands behind a separator
+pub done : (s : ℕ) (rest : Option (Bor (List ℕ))) (b : Bool) → is_some rest ≡ not b → b ≡ eqb (length (rest_parts s (option_copied rest))) 0
+done s None true h = refl
+done s None false h = let z : ◌≡◌ {A = ℕ} 0 1 = cc in absurd (omega arith)
+done s (Some t) true h = let z : ◌≡◌ {A = ℕ} 0 1 = cc in absurd (omega arith)
+done s (Some t) false h = let n = parts_some s t.now in sym (ne_eqb (length (parts s t.now)) 0 (λ e. omega arith))
 
 -- the parts, joined again
 joined_grown : (s c : ℕ) (ws : List (List ℕ)) → 0 < length ws → join_with_byte s (grown c ws) ≡ c ∷ join_with_byte s ws
@@ -58,18 +60,10 @@ texts_push n (f ∷ es) e =
     let m : n + 1 + length es ≡ n + length (f ∷ es) = omega arith in
     ap (λ (ts : List (List ℕ)). join_with_byte 32 (entry_words n f) ∷ ts) (texts_push (n + 1) es e ∙ ap (λ k. node_texts (n + 1) es ++ join_with_byte 32 (entry_words k e) ∷ []) m)
 
--- a line with no line feed
-pub last_fault : (n : ℕ) (l : List ℕ) (rest : List (List ℕ)) → length rest ≡ 0 → lines_fault n (l ∷ rest) ≡ Some (cond (eqb (length l) 0) 6 2, n + 1, 0)
-last_fault n l [] h = refl
-last_fault n l (m ∷ ls) h = absurd (omega arith)
-
 -- the line of a node, where another line follows
 node_line : (n : ℕ) (l : List ℕ) (rest : List (List ℕ)) → 0 < length rest → is_trailer l ≡ false → lines_fault n (l ∷ rest) ≡ on_line (n + 1) (node_fault n (words l)) (lines_fault (n + 1) rest)
 node_line n l [] h t = absurd (omega arith)
 node_line n l (m ∷ ls) h t = rw t
-
-pub node_fault_lem : (n : ℕ) (l : List ℕ) (rest : List (List ℕ)) (f w : ℕ) → 0 < length rest → is_trailer l ≡ false → node_fault n (words l) ≡ Some (f, w) → lines_fault n (l ∷ rest) ≡ Some (f, n + 1, w)
-node_fault_lem n l rest f w h t e = node_line n l rest h t ∙ ap (λ o. on_line (n + 1) o (lines_fault (n + 1) rest)) e
 
 pub node_goes_on : (n : ℕ) (l : List ℕ) (rest : List (List ℕ)) → 0 < length rest → is_trailer l ≡ false → node_fault n (words l) ≡ None → lines_fault n (l ∷ rest) ≡ lines_fault (n + 1) rest
 node_goes_on n l rest h t e = node_line n l rest h t ∙ ap (λ o. on_line (n + 1) o (lines_fault (n + 1) rest)) e
@@ -86,38 +80,35 @@ module _ (es : List Entry) (n : ℕ) (e : Entry) (room : n < length es) where
       h ∙ ap (λ (x : List ℕ). node_texts 0 (take n es) ++ x ∷ rest) line
       ∙ sym (ap (λ (x : List (List ℕ)). x ++ rest) more ∙ append_assoc (node_texts 0 (take n es)) (join_with_byte 32 (entry_words n e) ∷ []) rest)
 
-  pub fit_more : AllByRecursion EntryFits (take n es) → EntryFits e → AllByRecursion EntryFits (take (n + 1) (set es n e))
-  fit_more a f = rw (take_more_set es n e room) (All-push EntryFits (take n es) e a f)
+  pub fit_more : Every EntryFits (take n es) → EntryFits e → Every EntryFits (take (n + 1) (set es n e))
+  fit_more a f = rw (take_more_set es n e room) (every_push EntryFits (take n es) e a f)
 
 -- what the loop over the lines keeps: from s to t, `count` nodes were read
 pub record NodesSoFar (s : Parts) (entries : List Entry) (count : ℕ) (t : Parts) : Type 0 where
   pub spelled : left s ≡ node_texts 0 (take count entries) ++ left t
   pub goes_on : lines_fault 0 (left s) ≡ lines_fault count (left t)
-  pub fit : AllByRecursion EntryFits (take count entries)
+  pub fit : Every EntryFits (take count entries)
   pub small : count ≤ 200
   pub number : t.number ≡ count
   pub room : length entries ≡ 200
 
--- one turn of the loop: t is where it began, and u is past the line l, whose words are ws
-module _ (s t u : Parts) (es : List Entry) (n : ℕ) (l : List ℕ) (ws : List (List ℕ))
-    (inv : NodesSoFar s es n t) (next : left t ≡ l ∷ left u) (step : u.number ≡ t.number + 1)
-    (more : false ≡ eqb (length (left u)) 0) (node : false ≡ is_trailer l) (cut : ws ≡ parts 32 l) where
+-- one turn of the loop: t is where it began, and u is past the line l, of which r was read
+module _ (s t u : Parts) (es : List Entry) (n : ℕ) (l : List ℕ) (r : Result Entry LineRefusal)
+    (inv : NodesSoFar s es n t) (next : Gives t l u)
+    (more : false ≡ eqb (length (left u)) 0) (node : false ≡ is_trailer l) (read : EntryRead n (words l) r) where
   ended : 0 < length (left u)
   ended = let h : length (left u) ≡ 0 → ⊥ = eqb-false (length (left u)) 0 (sym more) in omega arith
 
-  pub loop_more : (e : Entry) → ws ≡ entry_words n e → node_fault n ws ≡ None → EntryFits e → (n ≡ 200 → ⊥) → NodesSoFar s (set es n e) (n + 1) u
-  loop_more e spells none fits few =
+  pub loop_more : (e : Entry) → r ≡ Ok e → NodesSoFar s (set es n e) (n + 1) u
+  loop_more e is =
+      let p = rw is at read in
+      let few = p.3 in
       let room : n < length es = omega (arith, inv.small, inv.room) in
       record {
-        spelled = spelled_more es n e room (left s) (left u) l (inv.spelled ∙ ap (λ (x : List (List ℕ)). node_texts 0 (take n es) ++ x) next) (sym cut ∙ spells);
-        goes_on = inv.goes_on ∙ ap (lines_fault n) next ∙ node_goes_on n l (left u) ended (sym node) (ap (node_fault n) (sym cut) ∙ none);
-        fit = fit_more es n e room inv.fit fits;
+        spelled = spelled_more es n e room (left s) (left u) l (inv.spelled ∙ ap (λ (x : List (List ℕ)). node_texts 0 (take n es) ++ x) next.taken) p.0;
+        goes_on = inv.goes_on ∙ ap (lines_fault n) next.taken ∙ node_goes_on n l (left u) ended (sym node) p.1;
+        fit = fit_more es n e room inv.fit p.2;
         small = omega (arith, inv.small, inv.room);
-        number = omega (arith, inv.number);
+        number = omega (arith, inv.number, next.counted);
         room = length-set es n e ∙ inv.room;
       }
-
-  pub loop_stop : (f w : ℕ) → node_fault n ws ≡ Some (f, w) → lines_fault 0 (left s) ≡ Some (f, u.number, w)
-  loop_stop f w fails =
-      let at : n + 1 ≡ u.number = omega (arith, inv.number) in
-      inv.goes_on ∙ ap (lines_fault n) next ∙ node_fault_lem n l (left u) f w ended (sym node) (ap (node_fault n) (sym cut) ∙ fails) ∙ ap (λ k. Some (f, k, w)) at

@@ -1,10 +1,10 @@
 -- A printed text, line by line.
 use Rattle.std.proofs.Common.{◌≡◌, ℕ, ◌+◌, ◌<◌, ◌≤◌, false, cond, eqb, ltb, List, [], ◌∷◌, ◌++◌, length, get_or, Some, None, codes, decimal, Option, sym, refl, ap, ◌∙◌, append_assoc, append-nil, arith, rules}
-use Rattle.std.specs.List.{join_with_byte, AllByRecursion}
+use Rattle.std.specs.List.{join_with_byte}
 use Rattle.std.specs.Str.{bytes_eq}
-use Rattle.std.proofs.ByRecursion.{All-append, All-weaker}
 use Rattle.std.proofs.lemmas.List.{length-append, get_or_push}
 use Rattle.std.proofs.lemmas.Bool.{and_from, eq-eqb, ne_eqb, lt-ltb}
+use Rattle.machine.specs.Every.{Every, every_append, every_weaker}
 use Rattle.machine.specs.declared.node.Entry.{Entry}
 use Rattle.text.specs.Cuts.{parts}
 use Rattle.text.specs.Entries.{EntryFits}
@@ -21,14 +21,14 @@ use Rattle.text.proofs.TextLaws.{node_goes_on}
 use Rattle.text.proofs.WordLaws.{same_false}
 
 -- a line of solid words has no line feed
-joined_lacks : (s : ℕ) (ws : List (List ℕ)) → s < 32 → AllByRecursion Solid ws → Lacks s (join_with_byte 32 ws)
+joined_lacks : (s : ℕ) (ws : List (List ℕ)) → s < 32 → Every Solid ws → Lacks s (join_with_byte 32 ws)
 joined_lacks s [] h a = tt
 joined_lacks s (x ∷ []) h a = solid_lacks s x (omega arith) a.0
 joined_lacks s (x ∷ y ∷ ws) h a =
     let sp : eqb 32 s ≡ false = ne_eqb 32 s (λ e. omega arith) in
-    All-append (λ b. eqb b s ≡ false) x (32 ∷ join_with_byte 32 (y ∷ ws)) (solid_lacks s x (omega arith) a.0) (sp, joined_lacks s (y ∷ ws) h a.1)
+    every_append (λ b. eqb b s ≡ false) x (32 ∷ join_with_byte 32 (y ∷ ws)) (solid_lacks s x (omega arith) a.0) (sp, joined_lacks s (y ∷ ws) h a.1)
 
-pub line_parts : (ws : List (List ℕ)) (rest : List ℕ) → AllByRecursion Solid ws → parts 10 (line ws ++ rest) ≡ join_with_byte 32 ws ∷ parts 10 rest
+pub line_parts : (ws : List (List ℕ)) (rest : List ℕ) → Every Solid ws → parts 10 (line ws ++ rest) ≡ join_with_byte 32 ws ∷ parts 10 rest
 line_parts ws rest a =
     ap (parts 10) (append_assoc (join_with_byte 32 ws) (10 ∷ []) rest) ∙ parts_front 10 (join_with_byte 32 ws) rest (joined_lacks 10 ws (omega arith) a)
 
@@ -42,17 +42,17 @@ label_no_end n e =
     omega arith
 
 pub entry_cut : (n : ℕ) (e : Entry) → n < 200 → EntryFits e → words (join_with_byte 32 (entry_words n e)) ≡ entry_words n e
-entry_cut n e l h = parts_join 32 (entry_words n e) (omega arith) (All-weaker Solid (Lacks 32) (λ w. solid_lacks 32 w (omega arith)) (entry_words n e) (entry_solid n e l h))
+entry_cut n e l h = parts_join 32 (entry_words n e) (omega arith) (every_weaker Solid (Lacks 32) (λ w. solid_lacks 32 w (omega arith)) (entry_words n e) (entry_solid n e l h))
 
 pub entry_no_trailer : (n : ℕ) (e : Entry) → n < 200 → EntryFits e → is_trailer (join_with_byte 32 (entry_words n e)) ≡ false
 entry_no_trailer n e l h = rw (entry_cut n e l h) (same_false (label_word n) (codes "end") (label_no_end n))
 
 -- the trailer
-pub trailer_solid : (count first : ℕ) → count ≤ 255 → first ≤ 255 → AllByRecursion Solid (trailer_words count first)
+pub trailer_solid : (count first : ℕ) → count ≤ 255 → first ≤ 255 → Every Solid (trailer_words count first)
 trailer_solid count first a b = (search rules, (decimal_solid count (omega arith), (search rules, (decimal_solid first (omega arith), tt))))
 
 pub trailer_cut : (count first : ℕ) → count ≤ 255 → first ≤ 255 → words (join_with_byte 32 (trailer_words count first)) ≡ trailer_words count first
-trailer_cut count first a b = parts_join 32 (trailer_words count first) (omega arith) (All-weaker Solid (Lacks 32) (λ w. solid_lacks 32 w (omega arith)) (trailer_words count first) (trailer_solid count first a b))
+trailer_cut count first a b = parts_join 32 (trailer_words count first) (omega arith) (every_weaker Solid (Lacks 32) (λ w. solid_lacks 32 w (omega arith)) (trailer_words count first) (trailer_solid count first a b))
 
 trailer_row : (count first : ℕ) → count ≤ 255 → first ≤ 255 → row_fault word_fault trailer_dues 1 (trailer_words count first) ≡ None
 trailer_row count first a b =
@@ -73,7 +73,7 @@ trailer_tail n first few f =
     ap (parts 10) (sym (append-nil tail)) ∙ line_parts (trailer_words n first) [] (trailer_solid n first (omega arith) f)
 
 -- the lines of the nodes, and then other lines
-nodes_parts : (n : ℕ) (es : List Entry) (tail : List ℕ) → n + length es ≤ 200 → AllByRecursion EntryFits es → parts 10 (node_lines n es ++ tail) ≡ node_texts n es ++ parts 10 tail
+nodes_parts : (n : ℕ) (es : List Entry) (tail : List ℕ) → n + length es ≤ 200 → Every EntryFits es → parts 10 (node_lines n es ++ tail) ≡ node_texts n es ++ parts 10 tail
 nodes_parts n [] tail few a = refl
 nodes_parts n (x ∷ es) tail few a =
     ap (parts 10) (append_assoc (line (entry_words n x)) (node_lines (n + 1) es) tail)
@@ -81,13 +81,13 @@ nodes_parts n (x ∷ es) tail few a =
     ∙ ap (λ (ls : List (List ℕ)). join_with_byte 32 (entry_words n x) ∷ ls) (nodes_parts (n + 1) es tail (omega arith) a.1)
 
 -- what is printed is cut into the lines that it was made of
-pub printed_parts : (p : Prog) → length p.entries ≤ 200 → p.first ≤ 255 → AllByRecursion EntryFits p.entries
+pub printed_parts : (p : Prog) → length p.entries ≤ 200 → p.first ≤ 255 → Every EntryFits p.entries
     → parts 10 (printed p) ≡ node_texts 0 p.entries ++ join_with_byte 32 (trailer_words (length p.entries) p.first) ∷ [] ∷ []
 printed_parts p few f a =
     nodes_parts 0 p.entries (line (trailer_words (length p.entries) p.first)) (omega arith) a
     ∙ ap (λ (ls : List (List ℕ)). node_texts 0 p.entries ++ ls) (trailer_tail (length p.entries) p.first few f)
 
-pub nodes_pass : (n : ℕ) (es : List Entry) (rest : List (List ℕ)) → n + length es ≤ 200 → 0 < length rest → AllByRecursion EntryFits es
+pub nodes_pass : (n : ℕ) (es : List Entry) (rest : List (List ℕ)) → n + length es ≤ 200 → 0 < length rest → Every EntryFits es
     → lines_fault n (node_texts n es ++ rest) ≡ lines_fault (n + length es) rest
 nodes_pass n [] rest few some a = ap (λ k. lines_fault k rest) (let z : n ≡ n + 0 = omega arith in z)
 nodes_pass n (x ∷ es) rest few some a =
@@ -99,7 +99,7 @@ nodes_pass n (x ∷ es) rest few some a =
     ∙ nodes_pass (n + 1) es rest (omega arith) some a.1
     ∙ ap (λ k. lines_fault k rest) e
 
-pub lines_pass : (es : List Entry) (first : ℕ) → 0 < length es → length es ≤ 200 → first ≤ 255 → AllByRecursion EntryFits es
+pub lines_pass : (es : List Entry) (first : ℕ) → 0 < length es → length es ≤ 200 → first ≤ 255 → Every EntryFits es
     → lines_fault 0 (node_texts 0 es ++ join_with_byte 32 (trailer_words (length es) first) ∷ [] ∷ []) ≡ None
 lines_pass es first some few f a =
     nodes_pass 0 es (join_with_byte 32 (trailer_words (length es) first) ∷ [] ∷ []) (omega arith) (omega arith) a

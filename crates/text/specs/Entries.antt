@@ -1,17 +1,16 @@
 -- The nodes that a text can spell.
 use Rattle.std.specs.Prelude.{◌≡◌, ℕ, ◌≤◌, List, [], ◌∷◌, Some, None, Result, MatchResult, ◌≢◌}
-use Rattle.text.specs.declared.cause.Cause.{Cause}
+use Rattle.text.specs.declared.refusal.LineRefusal.{LineRefusal}
 use Rattle.machine.specs.declared.node.Entry.{Entry}
 use Rattle.machine.specs.declared.node.Exits.{Exits}
 use Rattle.machine.specs.declared.node.Exits.TheVariants as exits
-use Rattle.text.specs.Causes.{cause_number}
-use Rattle.text.specs.Cuts.{left}
 use Rattle.text.specs.Print.{entry_words}
 use Rattle.machine.specs.Limits.{node_limit}
 use Rattle.machine.specs.WellFormed.{exits_of}
 use Rattle.text.specs.Rows.{node_fault}
 use Rattle.machine.specs.declared.node.Node.{Node}
 use Rattle.machine.specs.declared.node.Node.TheVariants.{Mov, Binary, In, Out, Ld, St, Br, Skip, Halt, Fail}
+use Rattle.text.specs.RowReads.{line_told}
 use Rattle.text.specs.WordReads.{OperandFits}
 
 -- registers, cells, numbers and faults are in range
@@ -36,7 +35,7 @@ TargetsFit exits.Two ts = (a : ℕ) × (b : ℕ) × (a ≤ 255) × (b ≤ 255) �
 abbrev pub EntryFits : Entry → Type 0
 EntryFits e = NodeFits e.node × TargetsFit (exits_of e.node) e.targets
 
--- r is the node that the words spell at the number `next`, or the first fault, of the word whose number t tells
-abbrev pub EntryRead : ℕ → List (List ℕ) → Result Entry Cause → ℕ → Type 0
-EntryRead next ws r number =
-    MatchResult r (λ e. (ws ≡ entry_words next e) × (node_fault next ws ≡ None) × EntryFits e × (next ≢ node_limit)) (λ e. node_fault next ws ≡ Some (cause_number e, number))
+-- r is the node that the words spell at the number `next`, or the first fault
+abbrev pub EntryRead : ℕ → List (List ℕ) → Result Entry LineRefusal → Type 0
+EntryRead next ws r =
+    MatchResult r (λ e. (ws ≡ entry_words next e) × (node_fault next ws ≡ None) × EntryFits e × (next ≢ node_limit)) (λ f. node_fault next ws ≡ Some (line_told f))

@@ -3,8 +3,8 @@ pub mod Kinds
 pub mod Causes
 pub mod Numbers
 pub mod Cuts
-pub mod Words
 pub mod Rows
+pub mod Words
 pub mod Print
 pub mod WordReads
 pub mod RowReads

@@ -1,6 +1,6 @@
 -- The targets of nodes, and the first that names no node.
 use Rattle.std.specs.Prelude.{ℕ, ◌+◌, ◌<◌, cond, List, [], ◌∷◌, length, Some, None, Option, nat_lt, slice_index}
-use Rattle.std.specs.List.{AllByRecursion}
+use Rattle.machine.specs.Every.{Every}
 use Rattle.machine.specs.declared.node.Entry.{Entry}
 use Rattle.machine.specs.declared.node.Exits.{Exits}
 use Rattle.machine.specs.declared.node.Exits.TheVariants as exits
@@ -14,7 +14,7 @@ used_targets exits.One ts = slice_index ts 0 ∷ []
 used_targets exits.Two ts = slice_index ts 0 ∷ slice_index ts 1 ∷ []
 
 abbrev pub TargetsBelow : ℕ → Entry → Type 0
-TargetsBelow count e = AllByRecursion (λ t. t < count) (used_targets (exits_of e.node) e.targets)
+TargetsBelow count e = Every (λ t. t < count) (used_targets (exits_of e.node) e.targets)
 
 -- the place in a list, counted from `at`, of the first number that is not below `count`
 abbrev pub first_not_below : ℕ → ℕ → List ℕ → Option ℕ

@@ -1,5 +1,5 @@
 -- The first fault of a whole text: its number, its line and its word.
-use Rattle.std.specs.Prelude.{ℕ, ◌+◌, ◌-◌, Bool, cond, ◌&&◌, List, [], ◌∷◌, length, Some, None, codes, Option, ◌==◌, nat_lt, slice_index_or}
+use Rattle.std.specs.Prelude.{ℕ, ◌+◌, ◌-◌, Bool, cond, ◌&&◌, List, [], ◌∷◌, ◌++◌, length, Some, None, codes, decimal, Option, ◌==◌, nat_lt, slice_index_or}
 use Rattle.std.specs.Str.{bytes_eq}
 use Rattle.text.specs.declared.refusal.TextRefusal.{TextRefusal}
 use Rattle.text.specs.Causes.{cause_number}
@@ -14,6 +14,10 @@ Place = ℕ × ℕ × ℕ
 
 abbrev pub refusal_told : TextRefusal → Place
 refusal_told f = (cause_number f.cause, f.line, f.word)
+
+-- what is printed of a refusal
+abbrev pub refusal_text : TextRefusal → List ℕ
+refusal_text f = codes "refused " ++ decimal (cause_number f.cause) ++ codes " line " ++ decimal f.line ++ codes " word " ++ decimal f.word
 
 abbrev pub words : List ℕ → List (List ℕ)
 words l = parts 32 l

@@ -1,7 +1,7 @@
 // The kinds of nodes, as the text names them.
 use machine::node::BinaryOp;
 
-#[derive(Clone, Copy)]
+#[derive(Clone, Copy, PartialEq, Eq, Debug)]
 pub enum Kind {
     Mov,
     Binary(BinaryOp),

@@ -1,4 +1,5 @@
 // Reads the text of a program.
+mod cut;
 mod due;
 mod entry;
 mod lines;
@@ -26,30 +27,16 @@ pub fn read(text: &[u8]) -> Result<Program, TextRefusal>
     ensures { ReadAs text.now result }
 {
     if text.len() > TEXT_LIMIT {
-        return Err(TextRefusal {
-            cause: Cause::LongText,
-            line: 0,
-            word: 0,
-        });
+        return Err(Cause::LongText.at(0, 0));
     }
+    // The table becomes the program's own: a list that grows would need a heap, or be copied.
     let mut table = Table::halting();
     let (count, first) = read_lines(text, &mut table.entries)?;
     if let Some((line, word)) = bad_targets(&table.entries[0..count as usize], count) {
-        return Err(TextRefusal {
-            cause: Cause::NoSuchNode,
-            line,
-            word,
-        });
+        return Err(Cause::NoSuchNode.at(line, word));
     }
     if first >= count {
-        return Err(TextRefusal {
-            cause: Cause::NoSuchNode,
-            line: count as usize + 1,
-            word: 4,
-        });
+        return Err(Cause::NoSuchNode.at(count as usize + 1, 4));
     }
-    match Program::from_table(table, count, first) {
-        Some(program) => Ok(program),
-        None => unreachable(),
-    }
+    Ok(Program::from_table(table, count, first).unwrap())
 }

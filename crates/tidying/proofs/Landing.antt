@@ -1,5 +1,5 @@
 -- The walk over skips that puts down what it learns.
-use Rattle.std.proofs.Common.{◌≡◌, ℕ, zero, suc, ◌<◌, true, false, ◌≢◌, List, [], ◌∷◌, length, set, replicate, Some, None, Option, sym, refl, ap, ◌∙◌, subst, inl, inr, arith}
+use Rattle.std.proofs.Common.{◌≡◌, ℕ, zero, suc, ◌<◌, true, false, ◌≢◌, List, [], ◌∷◌, length, set, replicate, Some, None, Option, sym, refl, ◌∙◌, subst, inl, inr, arith}
 use Rattle.std.proofs.lemmas.List.{length-set, length-replicate, get_or-set_same, get_or-set_other}
 use Rattle.std.proofs.lemmas.Bool.{cases_eq}
 use Rattle.machine.specs.Programs.{Prog, IsProgram}
@@ -31,9 +31,6 @@ unknown_less (To j ∷ ways) (suc n) there is = unknown_less ways n (omega arith
 unknown_less (Ring ∷ ways) (suc n) there is = unknown_less ways n (omega arith) is
 
 module _ (p : Prog) (ok : IsProgram p) (n : ℕ) (there : n < length p.entries) where
-  pub known_to : (ways : List Way) (j : ℕ) → Right p n ways → way_of ways n ≡ To j → Some j ≡ landing p n
-  known_to ways j right is = sym (subst (Says p n n) is (right.says n))
-
   pub known_ring : (ways : List Way) → Right p n ways → way_of ways n ≡ Ring → None ≡ landing p n
   known_ring ways right is = sym (subst (Says p n n) is (right.says n))
 
@@ -103,23 +100,6 @@ module _ (p : Prog) (ok : IsProgram p) (n : ℕ) (there : n < length p.entries) 
             | inr ne ↦ subst (Says p n k) (sym (get_or-set_other ways' n k (way_found found) Unknown ne)) (back k ne (way_of ways' k) refl (right'.says k))
           ];
         }
-
-        not_walking : (o : Option ℕ) → way_found o ≡ Walking → ⊥
-        not_walking (Some j) e = let z : ◌≡◌ {A = ℕ} 0 1 = cc in omega arith
-        not_walking None e = let z : ◌≡◌ {A = ℕ} 0 1 = cc in omega arith
-
-        pub walked_left : Left ways (set ways' n (way_found found))
-        walked_left k at = elim (cases_eq k n) [
-          | inl e ↦ absurd (not_walking found (sym (get_or-set_same ways' n (way_found found) Unknown inside') ∙ ap (way_of (set ways' n (way_found found))) (sym e) ∙ at))
-          | inr ne ↦ sym (get_or-set_other ways n k Walking Unknown ne) ∙ left' k (sym (get_or-set_other ways' n k (way_found found) Unknown ne) ∙ at)
-        ]
-
-    pub here_left : Left ways (set ways n (To n))
-    here_left k at = elim (cases_eq k n) [
-      | inl e ↦ let to : To n ≡ Walking = sym (get_or-set_same ways n (To n) Unknown inside) ∙ ap (way_of (set ways n (To n))) (sym e) ∙ at in
-          let z : ◌≡◌ {A = ℕ} 0 1 = cc in absurd (omega arith)
-      | inr ne ↦ sym (get_or-set_other ways n k (To n) Unknown ne) ∙ at
-    ]
 
 -- no walk is being made
 abbrev pub AtRest : List Way → Type 0

@@ -3,7 +3,6 @@ pub mod Targets
 pub mod PastLaws
 pub mod Skipless
 pub mod Landing
-pub mod Sending
 pub mod Marked
 pub mod Spreading
 pub mod Numbering

@@ -12,11 +12,11 @@ use Rattle.machine.specs.WellFormed.{exits_of}
 use Rattle.machine.proofs.Entries.{sound_parts}
 use Rattle.machine.proofs.Exits.{leads_has}
 use Rattle.settling.specs.NodeSets.{lowest}
-use Rattle.settling.specs.Worklist.{run}
+use Rattle.settling.specs.Worklist.{Worklist, worklist, run}
 use Rattle.settling.proofs.Lowest.{lowest_waits, lowest_rests}
 use Rattle.settling.proofs.Potential.{waiters, waiters_raise, waiters_rest, none_waits}
-use Rattle.settling.proofs.Worklist.{run_out}
-use Rattle.tidying.specs.Reached.{Reached, Marks, Spread, spread, spread_to, spread_over, followed, spread_next, spread_first, reached_marks}
+use Rattle.settling.proofs.Runs.{run_out}
+use Rattle.tidying.specs.Reached.{Reached, Marks, spread_to, spread_over, followed, spread_next, spread_first, reached_marks}
 use Rattle.tidying.specs.Reached.Reached.{at_first, onward}
 
 -- flag n is up
@@ -46,34 +46,34 @@ all_down (suc k) zero = refl
 all_down (suc k) (suc n) = all_down k n
 
 -- what is left to do: each node waits at most once
-abbrev pub left : Spread → ℕ
-left w = unmarked w.marks + waiters w.waiting
+abbrev pub left : Worklist Bool → ℕ
+left w = unmarked w.items + waiters w.waiting
 
 -- every target of node n is marked
 abbrev pub Closed : Prog → List Bool → ℕ → Type 0
 Closed p marks n = (exit : ℕ) → Has (exits_of (entry_of p n).node) exit → Up marks (get_or (entry_of p n).targets exit 0)
 
 -- what holds while the marks spread
-pub record Spreading (p : Prog) (w : Spread) : Type 0 where
-  pub long : length w.marks ≡ length p.entries
+pub record Spreading (p : Prog) (w : Worklist Bool) : Type 0 where
+  pub long : length w.items ≡ length p.entries
   pub flags : length w.waiting ≡ length p.entries
-  pub begins : Up w.marks p.first
-  pub reached : (n : ℕ) → Up w.marks n → Reached p n
-  pub waits : (n : ℕ) → Up w.waiting n → Up w.marks n
-  pub closed : (n : ℕ) → Up w.marks n → get_or w.waiting n false ≡ false → Closed p w.marks n
+  pub begins : Up w.items p.first
+  pub reached : (n : ℕ) → Up w.items n → Reached p n
+  pub waits : (n : ℕ) → Up w.waiting n → Up w.items n
+  pub closed : (n : ℕ) → Up w.items n → get_or w.waiting n false ≡ false → Closed p w.items n
 
 -- what spreading to reached nodes makes of w
-record Onward (p : Prog) (w u : Spread) : Type 0 where
-  pub long : length u.marks ≡ length w.marks
+record Onward (p : Prog) (w u : Worklist Bool) : Type 0 where
+  pub long : length u.items ≡ length w.items
   pub flags : length u.waiting ≡ length w.waiting
-  pub grows : (n : ℕ) → Up w.marks n → Up u.marks n
-  pub reached : ((n : ℕ) → Up w.marks n → Reached p n) → (n : ℕ) → Up u.marks n → Reached p n
-  pub waits : ((n : ℕ) → Up w.waiting n → Up w.marks n) → (n : ℕ) → Up u.waiting n → Up u.marks n
-  pub still : (n : ℕ) → Up u.marks n → get_or u.waiting n false ≡ false → Up w.marks n × (get_or w.waiting n false ≡ false)
+  pub grows : (n : ℕ) → Up w.items n → Up u.items n
+  pub reached : ((n : ℕ) → Up w.items n → Reached p n) → (n : ℕ) → Up u.items n → Reached p n
+  pub waits : ((n : ℕ) → Up w.waiting n → Up w.items n) → (n : ℕ) → Up u.waiting n → Up u.items n
+  pub still : (n : ℕ) → Up u.items n → get_or u.waiting n false ≡ false → Up w.items n × (get_or w.waiting n false ≡ false)
   pub less : left u ≤ left w
 
 module _ (p : Prog) where
-  onward_none : (w : Spread) → Onward p w w
+  onward_none : (w : Worklist Bool) → Onward p w w
   onward_none w =
       record {
         long = refl;
@@ -85,7 +85,7 @@ module _ (p : Prog) where
         less = omega arith;
       }
 
-  onward_both : (w u v : Spread) → Onward p w u → Onward p u v → Onward p w v
+  onward_both : (w u v : Worklist Bool) → Onward p w u → Onward p u v → Onward p w v
   onward_both w u v a b =
       record {
         long = b.long ∙ a.long;
@@ -98,7 +98,7 @@ module _ (p : Prog) where
       }
 
   onward_new : (n : ℕ) (marks waiting : List Bool) → Reached p n → n < length marks → n < length waiting → get_or marks n false ≡ false
-      → Onward p (spread marks waiting) (spread (set marks n true) (set waiting n true))
+      → Onward p (worklist marks waiting) (worklist (set marks n true) (set waiting n true))
   onward_new n marks waiting came below flagged down =
       record {
         long = length-set marks n true;
@@ -123,32 +123,32 @@ module _ (p : Prog) where
       }
 
   -- both lists have a place for each node
-  record Sized (w : Spread) : Type 0 where
-    pub long : length w.marks ≡ length p.entries
+  record Sized (w : Worklist Bool) : Type 0 where
+    pub long : length w.items ≡ length p.entries
     pub flags : length w.waiting ≡ length p.entries
 
-  sized_on : {w u : Spread} → Sized w → Onward p w u → Sized u
+  sized_on : {w u : Worklist Bool} → Sized w → Onward p w u → Sized u
   sized_on was on = record { long = on.long ∙ was.long; flags = on.flags ∙ was.flags }
 
   -- a node of the program that is reached
   abbrev Good : ℕ → Type 0
   Good n = Reached p n × (n < length p.entries)
 
-  to_onward : (n : ℕ) (w : Spread) → Good n → Sized w → Onward p w (spread_to n w)
-  to_onward n w good sized = go (get_or w.marks n false) refl
+  to_onward : (n : ℕ) (w : Worklist Bool) → Good n → Sized w → Onward p w (spread_to n w)
+  to_onward n w good sized = go (get_or w.items n false) refl
     where
-      go : (b : Bool) → get_or w.marks n false ≡ b → Onward p w (cond b w (spread (set w.marks n true) (set w.waiting n true)))
+      go : (b : Bool) → get_or w.items n false ≡ b → Onward p w (cond b w (worklist (set w.items n true) (set w.waiting n true)))
       go true e = onward_none w
-      go false e = onward_new n w.marks w.waiting good.0 (omega (arith, sized.long, good.1)) (omega (arith, sized.flags, good.1)) e
+      go false e = onward_new n w.items w.waiting good.0 (omega (arith, sized.long, good.1)) (omega (arith, sized.flags, good.1)) e
 
-  to_marks : (n : ℕ) (w : Spread) → n < length w.marks → Up (spread_to n w).marks n
-  to_marks n w below = go (get_or w.marks n false) refl
+  to_marks : (n : ℕ) (w : Worklist Bool) → n < length w.items → Up (spread_to n w).items n
+  to_marks n w below = go (get_or w.items n false) refl
     where
-      go : (b : Bool) → get_or w.marks n false ≡ b → Up (cond b w (spread (set w.marks n true) (set w.waiting n true))).marks n
+      go : (b : Bool) → get_or w.items n false ≡ b → Up (cond b w (worklist (set w.items n true) (set w.waiting n true))).items n
       go true e = e
-      go false e = get_or-set_same w.marks n true false below
+      go false e = get_or-set_same w.items n true false below
 
-  module _ (targets : List ℕ) (w : Spread) (sized : Sized w) where
+  module _ (targets : List ℕ) (w : Worklist Bool) (sized : Sized w) where
     over_onward : (x : Exits) → ((exit : ℕ) → Has x exit → Good (get_or targets exit 0)) → Onward p w (spread_over x targets w)
     over_onward exits.None good = onward_none w
     over_onward exits.One good = to_onward (get_or targets 0 0) w (good 0 refl) sized
@@ -158,7 +158,7 @@ module _ (p : Prog) where
         onward_both w u (spread_to (get_or targets 1 0) u) one (to_onward (get_or targets 1 0) u (good 1 (inr refl)) (sized_on sized one))
 
     over_marks : (x : Exits) → ((exit : ℕ) → Has x exit → Good (get_or targets exit 0)) → (exit : ℕ) → Has x exit
-        → Up (spread_over x targets w).marks (get_or targets exit 0)
+        → Up (spread_over x targets w).items (get_or targets exit 0)
     over_marks exits.None good exit has = absurd has
     over_marks exits.One good exit has = rw has (to_marks (get_or targets 0 0) w (omega (arith, sized.long, (good 0 refl).1)))
     over_marks exits.Two good exit (inl has) =
@@ -171,15 +171,15 @@ module _ (p : Prog) where
         let long = (sized_on sized one).long in
         rw has (to_marks (get_or targets 1 0) (spread_to (get_or targets 0 0) w) (omega (arith, long, (good 1 (inr refl)).1)))
 
-  pub follow_step : (n : ℕ) (w : Spread) → Some n ≡ lowest w.waiting → spread_next p w ≡ Some (followed p n w)
+  pub follow_step : (n : ℕ) (w : Worklist Bool) → Some n ≡ lowest w.waiting → spread_next p w ≡ Some (followed p n w)
   unfolding spread_next
   follow_step n w low = ap (option_map (λ k. followed p k w)) (sym low)
 
-  pub none_left : (w : Spread) → None ≡ lowest w.waiting → spread_next p w ≡ None
+  pub none_left : (w : Worklist Bool) → None ≡ lowest w.waiting → spread_next p w ≡ None
   unfolding spread_next
   none_left w none = ap (option_map (λ k. followed p k w)) (sym none)
 
-  next_none : (w : Spread) → spread_next p w ≡ None → lowest w.waiting ≡ None
+  next_none : (w : Worklist Bool) → spread_next p w ≡ None → lowest w.waiting ≡ None
   unfolding spread_next
   next_none w steps = go (lowest w.waiting) steps
     where
@@ -188,12 +188,12 @@ module _ (p : Prog) where
       go (Some n) f = let z : ◌≡◌ {A = ℕ} 0 1 = cc in absurd (omega arith)
 
   -- where none waits, each reached node is marked
-  module _ (w : Spread) (was : Spreading p w) (rests : (n : ℕ) → get_or w.waiting n false ≡ false) where
-    all_marked : (n : ℕ) → Reached p n → Up w.marks n
+  module _ (w : Worklist Bool) (was : Spreading p w) (rests : (n : ℕ) → get_or w.waiting n false ≡ false) where
+    all_marked : (n : ℕ) → Reached p n → Up w.items n
     all_marked _ at_first = was.begins
     all_marked _ (onward n exit came has) = was.closed n (all_marked n came) (rests n) exit has
 
-    pub spread_marks : Marks p w.marks
+    pub spread_marks : Marks p w.items
     spread_marks = record { each = was.long; exact = λ n below. (was.reached n, all_marked n) }
 
 module _ (p : Prog) (ok : IsProgram p) where
@@ -234,7 +234,7 @@ module _ (p : Prog) (ok : IsProgram p) where
       (onward n exit good.0 has, leads_has (length p.entries) (exits_of (entry_of p n).node) (entry_of p n).targets exit leads has)
 
   -- the exits of the lowest node that waits are followed
-  pub followed_keeps : (n : ℕ) (w : Spread) → Spreading p w → Some n ≡ lowest w.waiting → Spreading p (followed p n w) × (left (followed p n w) < left w)
+  pub followed_keeps : (n : ℕ) (w : Worklist Bool) → Spreading p w → Some n ≡ lowest w.waiting → Spreading p (followed p n w) × (left (followed p n w) < left w)
   unfolding followed
   followed_keeps n w was low =
       let up = lowest_waits w.waiting n (sym low) in
@@ -242,7 +242,7 @@ module _ (p : Prog) (ok : IsProgram p) where
       let x = exits_of (entry_of p n).node in
       let targets = (entry_of p n).targets in
       let good = good_on n (was.reached n (was.waits n up.1), there) in
-      let rested = spread w.marks (set w.waiting n false) in
+      let rested = worklist w.items (set w.waiting n false) in
       let sized : Sized p rested = record { long = was.long; flags = length-set w.waiting n false ∙ was.flags } in
       let on = over_onward p targets rested sized x good in
       let others : (k : ℕ) → Up (set w.waiting n false) k → Up w.waiting k = λ k waits. elim (cases_eq k n) [
@@ -256,7 +256,7 @@ module _ (p : Prog) (ok : IsProgram p) where
           reached = on.reached was.reached;
           waits = on.waits (λ k waits. was.waits k (others k waits));
           closed = λ k is rests. elim (cases_eq k n) [
-            | inl e ↦ subst (Closed p (spread_over x targets rested).marks) (sym e) (over_marks p targets rested sized x good)
+            | inl e ↦ subst (Closed p (spread_over x targets rested).items) (sym e) (over_marks p targets rested sized x good)
             | inr ne ↦ λ exit has.
                 let s = on.still k is rests in
                 on.grows (get_or (entry_of p k).targets exit 0) (was.closed k s.0 (sym (get_or-set_other w.waiting n k false false ne) ∙ s.1) exit has)
@@ -265,7 +265,7 @@ module _ (p : Prog) (ok : IsProgram p) where
         (let a = on.less in let b = waiters_rest w.waiting n up.1 in omega arith),
       )
 
-  next_keeps : (w u : Spread) → Spreading p w → spread_next p w ≡ Some u → Spreading p u × (left u < left w)
+  next_keeps : (w u : Worklist Bool) → Spreading p w → spread_next p w ≡ Some u → Spreading p u × (left u < left w)
   unfolding spread_next
   next_keeps w u was steps = go (lowest w.waiting) refl steps
     where

@@ -1,6 +1,6 @@
 -- Going through the marks in order.
 use Rattle.std.proofs.Common.{◌≡◌, ℕ, zero, suc, ◌+◌, ◌<◌, ◌≤◌, Bool, true, false, cond, List, [], ◌∷◌, ◌++◌, length, get_or, take, drop, set, sym, refl, ap, ◌∙◌, append_assoc, arith}
-use Rattle.std.proofs.lemmas.List.{append-nil, drop_all, drop_more, drop-set-lt, take_more_set}
+use Rattle.std.proofs.lemmas.List.{drop_more, drop-set-lt, take_more_set}
 use Rattle.tidying.specs.Tidy.{marked, rank}
 
 pub rank_le : (marks : List Bool) (n : ℕ) → rank marks n ≤ n
@@ -28,9 +28,6 @@ pub record Keeping {X : Type 0} (marks : List Bool) (before now : List X) (kept 
   pub all : take kept now ++ marked (drop i marks) (drop i before) ≡ marked marks before
 
 module _ {X : Type 0} (marks : List Bool) (before : List X) where
-  pub keeping_starts : Keeping marks before before 0 0
-  keeping_starts = record { few = omega arith; rest = refl; all = refl }
-
   module _ (now : List X) (kept i : ℕ) (d : X) (was : Keeping marks before now kept i) (inside : i < length now) (flagged : i < length marks) (long : length now ≡ length before) where
     entry_is : get_or now i d ∷ drop (i + 1) now ≡ get_or before i d ∷ drop (i + 1) before
     entry_is = sym (drop_more now i d inside) ∙ was.rest ∙ drop_more before i d (omega arith)
@@ -52,10 +49,3 @@ module _ {X : Type 0} (marks : List Bool) (before : List X) where
         let joined = append_assoc (take kept now) (get_or now i d ∷ []) (marked (drop (i + 1) marks) (drop (i + 1) before)) in
         let past = drop-set-lt (i + 1) now kept (get_or now i d) (omega arith) in
         record { few = omega arith; rest = cc; all = let a = was.all in cc }
-
-  pub keeping_all : (now : List X) (kept i : ℕ) → Keeping marks before now kept i → length marks ≤ i → take kept now ≡ marked marks before
-  keeping_all now kept i was far =
-      let none = drop_all i marks far in
-      let bare = append-nil (take kept now) in
-      let a = was.all in
-      cc

@@ -1,102 +1,73 @@
 -- What the code's steps come to in marking.
-use Rattle.std.proofs.Common.{◌≡◌, ℕ, ◌+◌, ◌-◌, ◌^◌, ◌<◌, ◌≤◌, min, Bool, true, false, List, length, get_or, take, set, replicate, Some, None, sym, refl, ap, ◌∙◌, subst, arith}
-use lib.Seq.{take-set-lt}
-use Rattle.std.proofs.lemmas.List.{length-set, length-replicate, take-replicate, get_or-replicate}
+use Rattle.std.proofs.Common.{◌≡◌, ℕ, ◌+◌, ◌-◌, ◌^◌, ◌<◌, min, Bool, true, false, List, length, set, replicate, Some, None, sym, refl, ap, ◌∙◌, subst, arith}
 use Rattle.machine.specs.Programs.{Prog, IsProgram}
 use Rattle.machine.specs.Runs.{entry_of}
 use Rattle.machine.specs.WellFormed.{exits_of}
-use Rattle.settling.specs.declared.node_set.NodeSet.{NodeSet}
-use Rattle.settling.specs.NodeSets.{flags, lowest, without}
-use Rattle.settling.specs.Settling.{Within}
-use Rattle.settling.proofs.Lowest.{lowest_waits, lowest_front}
-use Rattle.settling.proofs.Visiting.{within_set}
-use Rattle.settling.proofs.Worklist as worklist
-use Rattle.tidying.specs.Reached.{spread, spread_of, spread_to, spread_over, followed, spread_next, spread_first, reached_marks}
+use Rattle.settling.specs.Worklist.{Worklist, worklist}
+use Rattle.settling.specs.NodeSets.{lowest, without}
+use Rattle.machine.proofs.Entries.{sound_parts}
+use Rattle.machine.proofs.Exits.{leads_has}
+use Rattle.tidying.specs.Targets.{TargetsBelow}
+use Rattle.settling.proofs.Lowest.{lowest_waits}
+use Rattle.settling.proofs.Runs as runs
+use Rattle.tidying.specs.Reached.{spread_over, followed, spread_next, spread_first, reached_marks}
 use Rattle.tidying.proofs.Marked.{Spreading, left, follow_step, none_left, spreading_starts, first_left, followed_keeps}
 
-module _ (n : ℕ) (marks : List Bool) (ws : NodeSet) where
-  pub spread_known : get_or marks n false ≡ true → spread_of marks ws ≡ spread_to n (spread_of marks ws)
-  spread_known up = rw up
-
-  pub spread_new : (ws' : NodeSet) → n < length marks → get_or marks n false ≡ false → flags ws' ≡ set (flags ws) n true → spread_of (set marks n true) ws' ≡ spread_to n (spread_of marks ws)
-  spread_new ws' there down raised =
-      let long = length-set marks n true in
-      let front : take (length marks) (set (flags ws) n true) ≡ set (take (length marks) (flags ws)) n true = take-set-lt _ _ _ _ there in
-      let fresh : spread_to n (spread_of marks ws) ≡ spread (set marks n true) (set (take (length marks) (flags ws)) n true) = rw down in
-      ap (λ k. spread (set marks n true) (take k (flags ws'))) long ∙ ap (λ fs. spread (set marks n true) (take (length marks) fs)) raised ∙ ap (spread (set marks n true)) front ∙ sym fresh
-
 -- the first node is marked, where none was
-pub first_is : (nodes first : ℕ) (ws : NodeSet) → first < nodes → nodes ≤ 256 → flags ws ≡ replicate 256 false
-    → spread_to first (spread_of (replicate nodes false) ws) ≡ spread_first nodes first
+pub first_is : (nodes first : ℕ) (ms : List Bool) → ms ≡ replicate nodes false → length ms ≡ nodes
+    → (w w' : Worklist Bool) → w ≡ worklist ms (replicate (length ms) false) → w' ≡ worklist (set w.items first true) (set w.waiting first true)
+    → w' ≡ spread_first nodes first
 unfolding spread_first
-first_is nodes first ws there few still =
-    let long = length-replicate nodes false in
-    let down : get_or (replicate nodes false) first false ≡ false = get_or-replicate nodes first false false there in
-    let flat : take (length (replicate nodes false)) (flags ws) ≡ replicate nodes false =
-    ap (λ k. take k (flags ws)) long ∙ ap (take nodes) still ∙ take-replicate nodes 256 false few in
-    rw (down, flat)
+first_is nodes first ms still long w w' new put = cc
 
 -- what every turn of the marking keeps
-pub record Going (p : Prog) (marks : List Bool) (waiting : NodeSet) : Type 0 where
+pub record Going (p : Prog) (w : Worklist Bool) : Type 0 where
   pub counted : ℕ
-  pub going : worklist.Going (spread_next p) (length p.entries) (spread_first (length p.entries) p.first) left counted (spread_of marks waiting)
-  pub spreading : Spreading p (spread_of marks waiting)
-  pub within : Within (length marks) waiting
+  pub going : runs.Going (spread_next p) (length p.entries) (spread_first (length p.entries) p.first) left counted w
+  pub spreading : Spreading p w
 
 module _ (p : Prog) (ok : IsProgram p) where
-  pub going_starts : (marks : List Bool) (waiting : NodeSet) → spread_of marks waiting ≡ spread_first (length p.entries) p.first → Within (length marks) waiting → Going p marks waiting
-  going_starts marks waiting is within = record {
-    counted = 0;
-    going =
-        subst (worklist.Going (spread_next p) (length p.entries) (spread_first (length p.entries) p.first) left 0) (sym is)
-        (worklist.going_starts (spread_next p) _ _ left (first_left p ok));
-    spreading = subst (Spreading p) (sym is) (spreading_starts p ok);
-    within = within;
-  }
+  pub going_starts : (w : Worklist Bool) (nodes : ℕ) → w ≡ spread_first nodes p.first → nodes ≡ length p.entries → Going p w
+  going_starts w nodes is each =
+      let opens : w ≡ spread_first (length p.entries) p.first = is ∙ ap (λ n. spread_first n p.first) each in
+      record {
+        counted = 0;
+        going = rw opens (runs.going_starts (spread_next p) _ _ left (first_left p ok));
+        spreading = rw opens (spreading_starts p ok);
+      }
 
-  module _ (marks : List Bool) (waiting : NodeSet) (was : Going p marks waiting) where
-    front : lowest (take (length marks) (flags waiting)) ≡ lowest (flags waiting)
-    front = lowest_front (length marks) (flags waiting) was.within
+  module _ (w : Worklist Bool) (was : Going p w) where
+    pub marks_reached : None ≡ lowest w.waiting → (taken : Worklist Bool) → taken ≡ worklist w.items (without None w.waiting) → taken.items ≡ reached_marks p
+    marks_reached none taken rested =
+        let done = runs.going_ends (spread_next p) _ _ left was.counted w was.going (none_left p w none) in
+        ap (λ u. u.items) rested ∙ ap (λ u. u.items) done.last
 
-    pub none_waits : None ≡ lowest (flags waiting) → marks ≡ reached_marks p
-    none_waits none =
-        let done = worklist.going_ends (spread_next p) _ _ left was.counted (spread_of marks waiting) was.going (none_left p (spread_of marks waiting) (none ∙ sym front)) in
-        ap (λ w. w.marks) done.last
+    -- node n is taken from those that wait
+    module _ (n : ℕ) (low : Some n ≡ lowest w.waiting) (taken : Worklist Bool) (rested : taken ≡ worklist w.items (without (Some n) w.waiting)) where
+      pub node_there : n < length p.entries
+      node_there = let waits = lowest_waits w.waiting n (sym low) in let flagged = was.spreading.flags in omega (arith, waits.0)
 
-    -- node n is taken from the set
-    module _ (n : ℕ) (taken : NodeSet) (low : Some n ≡ lowest (flags waiting)) (without-n : flags taken ≡ without (Some n) (flags waiting)) where
-      front_low : Some n ≡ lowest (spread_of marks waiting).waiting
-      front_low = low ∙ sym front
-
-      pub node_there : n < length marks
-      node_there =
-          let waits = lowest_waits (spread_of marks waiting).waiting n (sym front_low) in
-          let flagged = was.spreading.flags in
+      pub targets_there : TargetsBelow (length taken.items) (entry_of p n)
+      targets_there exit has =
+          let leads = (sound_parts (length p.entries) (entry_of p n) (ok.sound n node_there)).leads in
+          let below = leads_has (length p.entries) (exits_of (entry_of p n).node) (entry_of p n).targets exit leads has in
           let long = was.spreading.long in
-          omega (arith, waits.0)
+          rw rested (omega arith)
 
-      pub node_within : Within (length marks) taken
-      node_within = within_set (length marks) n false waiting taken node_there was.within without-n
-
-      rested_is : spread_of marks taken ≡ spread marks (set (spread_of marks waiting).waiting n false)
-      rested_is = ap (λ fs. spread marks (take (length marks) fs)) without-n ∙ ap (spread marks) (take-set-lt (length marks) (flags waiting) n false node_there)
-
-      module _ (marks' : List Bool) (waiting' : NodeSet) (is : spread_of marks' waiting' ≡ spread_over (exits_of (entry_of p n).node) (entry_of p n).targets (spread_of marks taken)) where
-        followed_is : spread_of marks' waiting' ≡ followed p n (spread_of marks waiting)
+      module _ (w' : Worklist Bool) (is : w' ≡ spread_over (exits_of (entry_of p n).node) (entry_of p n).targets taken) where
+        followed_is : w' ≡ followed p n w
         unfolding followed
-        followed_is = is ∙ ap (spread_over (exits_of (entry_of p n).node) (entry_of p n).targets) rested_is
+        followed_is = is ∙ ap (spread_over (exits_of (entry_of p n).node) (entry_of p n).targets) rested
 
-        keeps : Spreading p (followed p n (spread_of marks waiting)) × (left (followed p n (spread_of marks waiting)) < left (spread_of marks waiting))
-        keeps = followed_keeps p ok n (spread_of marks waiting) was.spreading front_low
+        keeps : Spreading p (followed p n w) × (left (followed p n w) < left w)
+        keeps = followed_keeps p ok n w was.spreading low
 
-        pub going_less : left (spread_of marks' waiting') < left (spread_of marks waiting)
-        going_less = subst (λ w. left w < left (spread_of marks waiting)) (sym followed_is) keeps.1
+        pub going_less : left w' < left w
+        going_less = subst (λ u. left u < left w) (sym followed_is) keeps.1
 
-        pub going_follows : Within (length marks') waiting' → Going p marks' waiting'
-        going_follows within = record {
+        pub going_follows : Going p w'
+        going_follows = record {
           counted = min (was.counted + 1) (2 ^ 32 - 1);
-          going = worklist.going_on (spread_next p) _ _ left was.counted _ (spread_of marks waiting) (spread_of marks' waiting') was.going
-              (follow_step p n (spread_of marks waiting) front_low ∙ ap Some (sym followed_is)) going_less refl;
+          going = runs.going_on (spread_next p) _ _ left was.counted _ w w' was.going (follow_step p n w low ∙ ap Some (sym followed_is)) going_less refl;
           spreading = subst (Spreading p) (sym followed_is) keeps.0;
-          within = within;
         }

@@ -5,5 +5,6 @@ mod past;
 mod reach;
 mod renumber;
 mod send;
+mod spread;
 pub mod tidy;
 mod ways;

@@ -10,8 +10,8 @@ pub(crate) fn keep(entries: &mut [Entry], marks: &[bool]) -> usize
     ensures { (take result entries.new ≡ marked marks.now entries.old) × (result ≤ length entries.old) }
 {
     let mut count = 0;
-    for i in 0..entries.len() {
-        if marks[i] {
+    for (i, marked) in marks.iter().enumerate() {
+        if *marked {
             entries[count] = entries[i];
             count += 1;
         }
@@ -26,9 +26,10 @@ pub(crate) fn number(marks: &[bool], numbers: &mut [NodeNumber])
     ensures { (n : ℕ) → n < length marks.now → slice_index numbers.new n ≡ rank marks.now n }
 {
     let mut next = 0;
-    for i in 0..marks.len() {
+    // Over `numbers.iter_mut().zip(marks)` an invariant cannot say what has been put down.
+    for (i, marked) in marks.iter().enumerate() {
         numbers[i] = next;
-        if marks[i] {
+        if *marked {
             next += 1;
         }
     }

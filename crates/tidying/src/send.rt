@@ -1,6 +1,6 @@
 // Sending targets elsewhere.
 ghost use Rattle.std.specs.Prelude.{◌≡◌, ℕ, ◌<◌, map, length, slice_index};
-ghost use Rattle.std.specs.List.{AllByRecursion};
+ghost use Rattle.std.specs.List.{All};
 ghost use Rattle.tidying.specs.Skips.{retargeted};
 ghost use Rattle.tidying.specs.Targets.{TargetsBelow};
 
@@ -24,10 +24,10 @@ fn retarget(entry: Entry, to: &[NodeNumber]) -> Entry
 
 /// Sends the targets t of all entries to `to[t]`.
 pub(crate) fn send(entries: &mut [Entry], to: &[NodeNumber])
-    requires { AllByRecursion (TargetsBelow (length to.now)) entries.old }
+    requires { All (TargetsBelow (length to.now)) entries.old }
     ensures { entries.new ≡ map (retargeted (λ n. slice_index to.now n)) entries.old }
 {
-    for i in 0..entries.len() {
-        entries[i] = retarget(entries[i], to);
+    for entry in entries.iter_mut() {
+        *entry = retarget(*entry, to);
     }
 }

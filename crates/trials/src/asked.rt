@@ -8,11 +8,20 @@ pub fn proposed<A: Analysis>(analysis: &A, fact: &A::Fact, node: Node) -> Option
     if !node.is_sound() {
         return None;
     }
-    let proposal = analysis.propose(fact, node);
-    if !proposal.present {
-        return None;
-    }
-    Some((proposal.row[0], proposal.way, proposal.set))
+    let proposal = analysis.propose(fact, node)?;
+    let first = proposal.row.as_slice().first()?;
+    Some((*first, proposal.way, proposal.set))
+}
+
+/// Whether the other node is proposed for the node, with way 0 and this set.
+pub fn becomes<A: Analysis>(
+    analysis: &A,
+    fact: &A::Fact,
+    node: Node,
+    other: Node,
+    set: u16,
+) -> bool {
+    proposed(analysis, fact, node) == Some((other, 0, set))
 }
 
 /// Whether nothing holds where the node is left by the exit.

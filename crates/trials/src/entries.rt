@@ -1,36 +1,25 @@
 // Constants and copies on a dozen nodes each.
-use crate::asked::{after, proposed};
+use crate::asked::{after, becomes, proposed};
+use crate::nodes::{binary, mov};
 use analyses::constants::{Constants, Known};
 use analyses::copies::{Copied, Copies};
+use analyses::entries::Entries;
 use analysis::analysis::{Analysis, Facts};
 use machine::node::{BinaryOp, Node, Operand};
 
-fn binary(op: BinaryOp, left: Operand, right: Operand) -> Node {
-    Node::Binary {
-        op,
-        to: 0,
-        left,
-        right,
-    }
-}
-
-fn mov(to: u8, from: Operand) -> Node {
-    Node::Mov { to, from }
-}
-
+// The fixtures of constants stand here and those of copies below, each with its own values.
 /// r1 is 6 and r2 is 0.
 fn known() -> Known {
-    Known {
-        nowhere: false,
-        values: [None, Some(6), Some(0), None, None, None, None, None],
-    }
+    Some([None, Some(6), Some(0), None, None, None, None, None])
+}
+
+/// The entry of a register, where a run comes and it is present.
+fn entry<T: Copy>(fact: &Entries<T>, register: usize) -> Option<T> {
+    fact.as_ref()?.get(register).copied().flatten()
 }
 
 fn folds(node: Node, other: Node) -> bool {
-    match proposed(&Constants, &known(), node) {
-        Some((first, way, set)) => first == other && way == 0 && set == 2,
-        None => false,
-    }
+    becomes(&Constants, &known(), node, other, 2)
 }
 
 #[test]
@@ -94,31 +83,24 @@ fn constants_propose(rt: HostRuntime) {
 #[test]
 fn constants_flow_and_join(rt: HostRuntime) {
     let sum = binary(BinaryOp::Add, Operand::Reg(1), Operand::Num(1));
-    assert_eq!(rt; after(&Constants, &known(), sum).values[0], Some(7));
+    assert_eq!(rt; entry(&after(&Constants, &known(), sum), 0), Some(7));
     let input = Node::In { to: 1 };
-    assert_eq!(rt; after(&Constants, &known(), input).values[1], None);
+    assert_eq!(rt; entry(&after(&Constants, &known(), input), 1), None);
     let mut fact = known();
-    let mut other = known();
-    assert!(rt; !Constants.join(&mut fact, &other));
-    other.values[1] = Some(5);
+    assert!(rt; !Constants.join(&mut fact, &known()));
+    let other = Some([None, Some(5), Some(0), None, None, None, None, None]);
     assert!(rt; Constants.join(&mut fact, &other));
-    assert_eq!(rt; fact.values[1], None);
-    assert_eq!(rt; fact.values[2], Some(0));
+    assert_eq!(rt; entry(&fact, 1), None);
+    assert_eq!(rt; entry(&fact, 2), Some(0));
 }
 
 /// r1 and r2 are copies of r0.
 fn copied() -> Copied {
-    Copied {
-        nowhere: false,
-        sources: [None, Some(0), Some(0), None, None, None, None, None],
-    }
+    Some([None, Some(0), Some(0), None, None, None, None, None])
 }
 
 fn copies(node: Node, other: Node) -> bool {
-    match proposed(&Copies, &copied(), node) {
-        Some((first, way, set)) => first == other && way == 0 && set == 4,
-        None => false,
-    }
+    becomes(&Copies, &copied(), node, other, 4)
 }
 
 #[test]
@@ -140,12 +122,12 @@ fn copies_propose(rt: HostRuntime) {
 fn copies_flow(rt: HostRuntime) {
     let input = Node::In { to: 0 };
     let written = after(&Copies, &copied(), input);
-    assert_eq!(rt; written.sources[1], None);
-    assert_eq!(rt; written.sources[2], None);
+    assert_eq!(rt; entry(&written, 1), None);
+    assert_eq!(rt; entry(&written, 2), None);
     let same = mov(1, Operand::Reg(1));
-    assert_eq!(rt; after(&Copies, &copied(), same).sources[1], Some(0));
+    assert_eq!(rt; entry(&after(&Copies, &copied(), same), 1), Some(0));
     let copy = mov(3, Operand::Reg(4));
-    assert_eq!(rt; after(&Copies, &copied(), copy).sources[3], Some(4));
+    assert_eq!(rt; entry(&after(&Copies, &copied(), copy), 3), Some(4));
     let number = mov(1, Operand::Num(4));
-    assert_eq!(rt; after(&Copies, &copied(), number).sources[1], None);
+    assert_eq!(rt; entry(&after(&Copies, &copied(), number), 1), None);
 }

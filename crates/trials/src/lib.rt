@@ -6,6 +6,8 @@ mod asked;
 #[cfg(test)]
 mod entries;
 #[cfg(test)]
+mod nodes;
+#[cfg(test)]
 mod piles;
 #[cfg(test)]
 mod small;

@@ -1,5 +1,6 @@
 // Arithmetic and branches on a dozen nodes each.
-use crate::asked::{is_shut, proposed};
+use crate::asked::{becomes, is_shut, proposed};
+use crate::nodes::{binary, mov};
 use analyses::arithmetic::Arithmetic;
 use analyses::branches::Branches;
 use analyses::reach::Reach;
@@ -7,24 +8,8 @@ use machine::node::{BinaryOp, Node, Operand};
 
 const R1: Operand = Operand::Reg(1);
 
-fn binary(op: BinaryOp, left: Operand, right: Operand) -> Node {
-    Node::Binary {
-        op,
-        to: 0,
-        left,
-        right,
-    }
-}
-
-fn mov(to: u8, from: Operand) -> Node {
-    Node::Mov { to, from }
-}
-
-fn becomes(node: Node, other: Node) -> bool {
-    match proposed(&Arithmetic, &Reach::REACHED, node) {
-        Some((first, way, set)) => first == other && way == 0 && set == 8,
-        None => false,
-    }
+fn simplifies(node: Node, other: Node) -> bool {
+    becomes(&Arithmetic, &Reach::REACHED, node, other, 8)
 }
 
 fn stays(node: Node) -> bool {
@@ -33,13 +18,13 @@ fn stays(node: Node) -> bool {
 
 #[test]
 fn arithmetic_makes_simpler(rt: HostRuntime) {
-    assert!(rt; becomes(mov(3, Operand::Reg(3)), Node::Skip));
-    assert!(rt; becomes(binary(BinaryOp::Add, R1, Operand::Num(0)), mov(0, R1)));
-    assert!(rt; becomes(binary(BinaryOp::Sub, R1, Operand::Num(0)), mov(0, R1)));
-    assert!(rt; becomes(binary(BinaryOp::Mul, R1, Operand::Num(1)), mov(0, R1)));
-    assert!(rt; becomes(binary(BinaryOp::Div, R1, Operand::Num(1)), mov(0, R1)));
+    assert!(rt; simplifies(mov(3, Operand::Reg(3)), Node::Skip));
+    assert!(rt; simplifies(binary(BinaryOp::Add, R1, Operand::Num(0)), mov(0, R1)));
+    assert!(rt; simplifies(binary(BinaryOp::Sub, R1, Operand::Num(0)), mov(0, R1)));
+    assert!(rt; simplifies(binary(BinaryOp::Mul, R1, Operand::Num(1)), mov(0, R1)));
+    assert!(rt; simplifies(binary(BinaryOp::Div, R1, Operand::Num(1)), mov(0, R1)));
     assert!(rt;
-        becomes(
+        simplifies(
             binary(BinaryOp::Mul, R1, Operand::Num(0)),
             mov(0, Operand::Num(0)),
         )

@@ -11,22 +11,7 @@ use crate::program::Program;
 fn are_sound(entries: &[Entry], count: NodeNumber) -> bool
     ensures { result ≡ every_sound count entries.now }
 {
-    for entry in entries {
-        if !entry.is_sound(count) {
-            return false;
-        }
-    }
-    true
-}
-
-fn put(entries: &mut [Entry], at: NodeNumber, more: &[Entry])
-    requires { at + length more.now ≤ length entries.old }
-    ensures { take (at + length more.now) entries.new ≡ take at entries.old ++ more.now }
-{
-    let start = at as usize;
-    for i in 0..more.len() {
-        entries[start + i] = more[i];
-    }
+    entries.iter().all(|entry| entry.is_sound(count))
 }
 
 impl Program {
@@ -49,7 +34,7 @@ impl Program {
         if count as usize > NODE_LIMIT || first >= count {
             return None;
         }
-        if !are_sound(&table.entries[0..count as usize], count) {
+        if !are_sound(&table.entries[..count as usize], count) {
             return None;
         }
         Some(Program {
@@ -59,6 +44,7 @@ impl Program {
         })
     }
 
+    // Here and in `append` a `bool` tells whether it was done, as for `insert` of a set; there is no more to tell.
     /// Puts `entry` in the place of the one at `k`, if that leaves a program.
     pub fn replace(&mut self, k: NodeNumber, entry: Entry) -> bool
         ensures told { result ≡ (nat_lt k self.old.count && sound self.old.count entry) }
@@ -86,7 +72,7 @@ impl Program {
         if !are_sound(more, count) {
             return false;
         }
-        put(&mut self.table.entries, self.count, more);
+        self.table.entries[self.count as usize..count as usize].copy_from_slice(more);
         self.count = count;
         true
     }

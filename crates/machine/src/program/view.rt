@@ -12,7 +12,7 @@ impl Program {
         ensures whole { IsProgram (program_of self.now) }
     {
         let Program { table, count, .. } = self;
-        &table.entries[0..*count as usize]
+        &table.entries[..*count as usize]
     }
 
     /// A copy of the table, which begins with the entries.

@@ -7,6 +7,7 @@ ghost use Rattle.text.specs.LineReads.{LinesRead, NodesOk};
 ghost use Rattle.text.specs.Texts.{is_trailer, lines_fault, refusal_told};
 
 use crate::cause::Cause;
+use crate::read::cut::cut;
 use crate::read::entry::entry;
 use crate::read::parts::Parts;
 use crate::read::trailer::trailer;
@@ -17,11 +18,8 @@ use machine::node::{Entry, NodeNumber};
 fn is_trailer(line: &[u8]) -> bool
     ensures { result ≡ is_trailer line.now }
 {
-    let mut words = Parts::new(line, b' ');
-    match words.next() {
-        Some(word) => word == b"end".as_slice(),
-        None => false,
-    }
+    let (word, _) = cut(line, b' ');
+    word == b"end".as_slice()
 }
 
 /// Reads the lines of the nodes, and answers how many there are, and the trailer's line.
@@ -33,47 +31,30 @@ fn nodes<'a>(
     requires room { length entries.old ≡ node_limit }
     ensures { MatchResult result (λ x. NodesOk lines.old entries.new x.0 x.1.now lines.new) (λ f. lines_fault 0 (left lines.old) ≡ Some (refusal_told f)) }
 {
+    // The count is also the number of the node that is due.
     let mut count: NodeNumber = 0;
     loop {
-        let Some(line) = lines.next() else {
-            return Err(TextRefusal {
-                cause: Cause::BadTrailer,
-                line: lines.number,
-                word: 0,
-            });
-        };
+        let line = lines
+            .next()
+            .ok_or(Cause::BadTrailer.at(lines.number + 1, 0))?;
         if lines.is_done() {
             let cause = if line.is_empty() {
                 Cause::BadTrailer
             } else {
                 Cause::IllFormed
             };
-            return Err(TextRefusal {
-                cause,
-                line: lines.number,
-                word: 0,
-            });
+            return Err(cause.at(lines.number, 0));
         }
         if is_trailer(line) {
             return Ok((count, line));
         }
-        let mut words = Parts::new(line, b' ');
-        match entry(&mut words, count) {
-            Ok(entry) => {
-                entries[count as usize] = entry;
-                count += 1;
-            }
-            Err(cause) => {
-                return Err(TextRefusal {
-                    cause,
-                    line: lines.number,
-                    word: words.number,
-                });
-            }
-        }
+        let entry = entry(line, count).map_err(|refusal| refusal.in_line(lines.number))?;
+        entries[count as usize] = entry;
+        count += 1;
     }
 }
 
+// The pair is taken apart by name at its one call, as that of `trailer` is.
 /// Reads the lines of a text, and answers how many nodes there are, and the first node.
 pub(super) fn read_lines(
     text: &[u8],
@@ -84,29 +65,12 @@ pub(super) fn read_lines(
 {
     let mut lines = Parts::new(text, b'\n');
     let (count, line) = nodes(&mut lines, entries)?;
-    let mut words = Parts::new(line, b' ');
-    match trailer(&mut words) {
-        Ok((told, first)) => {
-            if !lines.is_at_end() {
-                return Err(TextRefusal {
-                    cause: Cause::BadTrailer,
-                    line: lines.number + 1,
-                    word: 0,
-                });
-            }
-            if count == 0 || told != count {
-                return Err(TextRefusal {
-                    cause: Cause::BadTrailer,
-                    line: lines.number,
-                    word: 2,
-                });
-            }
-            Ok((count, first))
-        }
-        Err(cause) => Err(TextRefusal {
-            cause,
-            line: lines.number,
-            word: words.number,
-        }),
+    let (told, first) = trailer(line).map_err(|refusal| refusal.in_line(lines.number))?;
+    if !lines.is_at_end() {
+        return Err(Cause::BadTrailer.at(lines.number + 1, 0));
     }
+    if count == 0 || told != count {
+        return Err(Cause::BadTrailer.at(lines.number, 2));
+    }
+    Ok((count, first))
 }

@@ -1,22 +1,20 @@
 // Decimal numbers of the text.
 
 ghost use Rattle.std.specs.Prelude.{◌≡◌, ◌<◌, ◌≤◌, true, MatchOption};
+ghost use Rattle.std.specs.Char.{is_ascii_digit};
+ghost use Rattle.std.specs.List.{list_all};
 ghost use Rattle.std.specs.Str.{all_ascii_digits};
 ghost use Rattle.text.specs.Numbers.{value_of, NumberRead};
 
 use crate::cause::Cause;
 
 fn all_digits(part: &[u8]) -> bool
-    ensures { result ≡ all_ascii_digits part.now }
+    ensures { result ≡ list_all is_ascii_digit part.now }
 {
-    for b in part {
-        if !b.is_ascii_digit() {
-            return false;
-        }
-    }
-    true
+    part.iter().all(|b| b.is_ascii_digit())
 }
 
+// `parse` is for a `str`, and would take a sign.
 /// The number that the digits write, if it is at most `limit`.
 fn value_up_to(part: &[u8], limit: u32) -> Option<u32>
     requires { all_ascii_digits part.now ≡ true }
@@ -42,8 +40,5 @@ pub(super) fn number(part: &[u8], limit: u32) -> Result<u32, Cause>
     if part.len() > 1 && part[0] == b'0' {
         return Err(Cause::BadNumber);
     }
-    match value_up_to(part, limit) {
-        Some(value) => Ok(value),
-        None => Err(Cause::BadNumber),
-    }
+    value_up_to(part, limit).ok_or(Cause::BadNumber)
 }

@@ -29,6 +29,7 @@ fn bad_target(entry: Entry, count: NodeNumber) -> Option<usize>
     }
 }
 
+// A place alone: `read` says for which cause.
 /// The line and the word of the first target that is not below `count`.
 pub(super) fn bad_targets(entries: &[Entry], count: NodeNumber) -> Option<(usize, usize)>
     ensures { result ≡ bad_targets count 0 entries.now }

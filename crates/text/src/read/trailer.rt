@@ -1,22 +1,22 @@
 // Reads the trailer's line.
 
-ghost use Rattle.std.specs.Prelude.{◌≡◌};
-ghost use Rattle.text.specs.Cuts.{left};
+ghost use Rattle.text.specs.Cuts.{parts};
 ghost use Rattle.text.specs.LineReads.{TrailerRead};
 
-use crate::cause::Cause;
+use crate::read::due;
 use crate::read::parts::Parts;
+use crate::refusal::LineRefusal;
 use machine::node::NodeNumber;
 
 /// The number of nodes that the trailer tells, and the first node.
-pub(super) fn trailer(words: &mut Parts) -> Result<(NodeNumber, NodeNumber), Cause>
-    requires { words.old.number ≡ 0 }
-    ensures { TrailerRead (left words.old) result words.new.number }
+pub(super) fn trailer(line: &[u8]) -> Result<(NodeNumber, NodeNumber), LineRefusal>
+    ensures { TrailerRead (parts 32 line.now) result }
 {
-    words.end()?;
-    let count = words.count()?;
-    words.from()?;
-    let first = words.target()?;
+    let mut words = Parts::new(line, b' ');
+    words.read(|word| due::exact(word, b"end"))?;
+    let count = words.read(due::node_number)?;
+    words.read(|word| due::exact(word, b"from"))?;
+    let first = words.read(due::node_number)?;
     words.finish()?;
     Ok((count, first))
 }

@@ -1,14 +1,13 @@
-use Rattle.std.proofs.Common.{◌≡◌, suc, ◌-◌, ◌<◌, length, take, sym, ap, ◌∙◌, arith}
-use Rattle.analysis.specs.Deeps.{last_of}
-use Rattle.machine.specs.declared.node.Node.TheVariants.{Mov, Skip}
-use Rattle.machine.specs.declared.node.Operand.TheVariants.{Reg}
-use Rattle.analysis.proofs.Looks.{last_of_take}
+use Rattle.std.proofs.Common.{◌-◌, length, sym, ap, ◌∙◌}
+use Rattle.std.specs.List.{slice_get}
+use Rattle.std.specs.Option.{unwrap_or}
+use Rattle.analysis.specs.Analyses.{nodes_of}
+use Rattle.machine.specs.declared.node.Node.TheVariants.{Skip}
+use Rattle.analysis.proofs.Looks.{last_of_row}
 use Rattle.analysis.proofs.deep.last.Goals as goal
 
-pub returns-else-walk-eq0 : goal.returns-else-walk-eq0
-returns-else-walk-eq0 g c =
-    let walk = c.args.walk.now in
-    let k = walk.len - 1 in
-    let within : k < length walk.row = omega arith in
-    let one : suc (walk.len - 1) ≡ walk.len = omega arith in
-    sym (last_of_take walk.row k (Mov 0 (Reg 0)) Skip within) ∙ ap (λ j. last_of Skip (take j walk.row)) one
+pub returns : goal.returns
+returns g c =
+    c.unwrap_or.ensures
+    ∙ ap (λ o. unwrap_or o Skip) (c.copied.ensures ∙ c.last.ensures.value ∙ ap (λ r. slice_get r (length r - 1)) c.as_slice.ensures)
+    ∙ sym (last_of_row (nodes_of c.args.walk.now.row) Skip)

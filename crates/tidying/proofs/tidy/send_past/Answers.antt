@@ -1,20 +1,32 @@
-use Rattle.std.proofs.Common.{ℕ, length, get_or, sym, ◌∙◌, subst}
-use Rattle.std.specs.List.{AllByRecursion}
-use Rattle.machine.specs.Programs.{prog}
-use Rattle.tidying.specs.Skips.{past}
-use Rattle.tidying.specs.Targets.{TargetsBelow}
-use Rattle.tidying.proofs.TidySteps.{program_targets, retargeted_same}
+use Rattle.std.proofs.Common.{◌≡◌, map, length, get_or, ap, ◌∙◌, arith}
+use Rattle.machine.specs.Programs.{program_of}
+use Rattle.machine.proofs.Held.{held_program}
+use Rattle.tidying.specs.Skips.{past, retargeted}
+use Rattle.tidying.proofs.Fronts.{front_long}
+use Rattle.tidying.proofs.TidySteps.{targets_of, retargeted_same}
 use Rattle.tidying.proofs.tidy.send_past.Goals as goal
+use Rattle.tidying.proofs.tidy.send_past.Goals.{After-find_past}
+
+sent_long : (c : After-find_past) → length c.find_past.new.sent ≡ length (program_of c.args.program.now).entries
+sent_long c =
+    let few = (held_program c.args.program.now).counted in
+    let same = ap length c.requires in
+    c.find_past.auto.sent ∙ front_long (length c.args.entries.now) 200 0 (omega arith) ∙ same
 
 pub send-requires : goal.send-requires
 send-requires c =
-    subst (λ (k : ℕ). AllByRecursion (TargetsBelow k) c.args.entries.now) (sym (c.find_past.auto.sent ∙ c.requires.each)) (program_targets (prog c.args.entries.now c.args.first) c.requires.whole)
+    targets_of (program_of c.args.program.now) (held_program c.args.program.now) c.args.entries.now (length c.find_past.new.sent) c.requires
+    (sent_long (goal.at.send-requires c).After-find_past)
 
-pub returns : goal.returns
-returns c =
-    let p = prog c.args.entries.now c.args.first in
-    record {
-      entries = c.send.ensures
-          ∙ retargeted_same (λ k. get_or c.find_past.new.sent k 0) (past p) (length c.args.entries.now) c.find_past.ensures c.args.entries.now (program_targets p c.requires.whole);
-      first = c.find_past.ensures c.args.first c.requires.whole.starts;
-    }
+pub returns-clause-entries : goal.returns-clause-entries
+returns-clause-entries c =
+    let p = program_of c.args.program.now in
+    c.send.ensures
+    ∙ retargeted_same (λ k. get_or c.find_past.new.sent k 0) (past p) (length p.entries) c.find_past.ensures c.args.entries.now
+    (targets_of p (held_program c.args.program.now) c.args.entries.now (length p.entries) c.requires (let same : length p.entries ≡ length p.entries = omega arith in same))
+    ∙ ap (map (retargeted (past p))) c.requires
+
+pub returns-clause-first : goal.returns-clause-first
+returns-clause-first c =
+    let p = program_of c.args.program.now in
+    rw c.first.ensures (c.find_past.ensures p.first (held_program c.args.program.now).starts)

@@ -1,4 +1,4 @@
-use Rattle.std.proofs.Common.{sym, ap, ◌∙◌, subst, rules}
+use Rattle.std.proofs.Common.{sym, ap, ◌∙◌, subst}
 use Rattle.analysis.specs.Forms.{Proper}
 use Rattle.analysis.specs.Deeps.{Course, fact_at, last_of}
 use Rattle.machine.specs.declared.node.Node.TheVariants.{Skip}
@@ -8,13 +8,8 @@ use Rattle.analysis.proofs.deep.DeepAnalysis.flow.Goals as goal
 
 pub at_exit-requires : goal.at_exit-requires
 at_exit-requires g c =
-    let inner = c.args.self.now.inner in
-    record {
-      room = c.follow-walk.ensures.room;
-      full = search rules;
-      proper = subst (λ (w : Course g.row.A-Fact.Denot). Proper (last_of Skip w.done)) (sym c.follow-walk.ensures.course)
-          (done_last_proper (g.met.A.Analysis.sound inner) c.args.fact.now c.args.node c.requires);
-    }
+    subst (λ (w : Course g.row.A-Fact.Denot). Proper (last_of Skip w.done)) (sym c.follow-walk.ensures.course)
+    (done_last_proper (g.met.A.Analysis.sound c.args.self.now.inner) c.args.fact.now c.args.node c.requires)
 
 pub returns : goal.returns
 returns g c =

@@ -1,7 +1,6 @@
 use Rattle.std.proofs.Common.{◌≡◌, ◌++◌, take}
-use Rattle.printer.specs.Pages.{content}
 use Rattle.text.specs.Print.{node_lines}
 use Rattle.printer.proofs.page.Page.push_entries.Given as goal
 
-abbrev pub invariant-loop-i : goal.invariant-loop-i
-invariant-loop-i l = content l.self ≡ content l.initial.self ++ node_lines 0 (take l.i l.entries)
+abbrev pub invariant-loop-number : goal.invariant-loop-number
+invariant-loop-number l = l.self ≡ l.initial.self ++ node_lines 0 (take l.number l.entries)

@@ -5,4 +5,4 @@ use Rattle.settling.proofs.node_set.NodeSet.take_lowest.Given as goal
 
 abbrev pub invariant-loop-i : goal.invariant-loop-i
 invariant-loop-i l =
-    (l.self.words ≡ l.initial.self.words) × (lowest_from (64 * l.i) (bits_of (drop l.i l.self.words)) ≡ lowest (bits_of l.initial.self.words))
+    (l.word-items ≡ l.fn.self.words) × (lowest_from (64 * l.i) (bits_of (drop l.i l.word-items)) ≡ lowest (bits_of l.fn.self.words))

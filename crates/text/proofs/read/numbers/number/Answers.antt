@@ -1,10 +1,11 @@
-use Rattle.std.proofs.Common.{◌≡◌, None, rules}
-use Rattle.text.specs.Numbers.{number_fault}
-use Rattle.text.proofs.Decimal.{read_is_written}
+use Rattle.std.proofs.Common.{◌≡◌, true, false, rules}
+use Rattle.text.specs.Numbers.{is_numeral, leading_zero}
+use Rattle.text.proofs.Decimal.{digits_all, number_read}
 use Rattle.text.proofs.read.numbers.number.Goals as goal
 
-pub returns-in-Some : goal.returns-in-Some
-returns-in-Some c =
-    let f : number_fault c.args.limit c.args.part.now ≡ None = search rules in
-    let w = read_is_written c.args.limit c.args.part.now c.ranges.limit.fits f in
-    search rules
+pub returns : goal.returns
+returns c =
+    let h = digits_all c.args.part.now in
+    let a : is_numeral c.args.part.now ≡ true = search rules in
+    let b : leading_zero c.args.part.now ≡ false = search rules in
+    rw c.ok_or.ensures.value (number_read c.args.limit c.args.part.now c.value_up_to.result c.ranges.limit.fits a b c.value_up_to.ensures)

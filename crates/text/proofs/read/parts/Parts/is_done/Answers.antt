@@ -2,4 +2,4 @@ use Rattle.text.proofs.TextLaws.{done}
 use Rattle.text.proofs.read.parts.Parts.is_done.Goals as goal
 
 pub returns : goal.returns
-returns c = done c.args.self.now.sep c.args.self.now.text.now c.args.self.now.at
+returns c = done c.args.self.now.sep c.args.self.now.rest c.is_none.result c.is_none.ensures
