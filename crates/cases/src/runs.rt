@@ -23,6 +23,7 @@ const CELL: u32 = 5;
 /// What the output buffer holds before a run.
 const UNWRITTEN: u32 = 9;
 
+// A line for each run; the program `run` tells the same in sentences of its own.
 fn show_outcome(rt: &impl Print, name: &str, outcome: Outcome) -> io::Result<()> {
     let stop = outcome.stop;
     let steps = outcome.steps;

@@ -14,6 +14,7 @@ pub struct Doubling;
 /// Bit 5.
 pub const SET: u16 = 32;
 
+// An impl is for one type, so it passes its calls on to the sample.
 impl Facts for Doubling {
     type Fact = bool;
 
