@@ -77,7 +77,7 @@ pub(crate) fn visit<P: Analysis>(
     ensures same { work.new.items.ghost_name ≡ work.old.items.ghost_name }
 {
     let entry = program.entries()[node as usize];
-    let fact = work.get(node);
+    let fact = work.items[node as usize];
     match entry.node.exits() {
         Exits::None => {}
         Exits::One => cross(pile, work, entry, &fact, 0),

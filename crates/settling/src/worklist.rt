@@ -14,38 +14,37 @@ pub struct Worklist<'a, T> {
 }
 
 impl<'a, T: Copy> Worklist<'a, T> {
-    ghost use Rattle.std.specs.Prelude.{◌≡◌, ◌<◌, ◌≤◌, true, false, Some, replicate, slice_get, slice_set};
+    ghost use Rattle.std.specs.Prelude.{◌≡◌, min, true, false, replicate, slice_get, slice_set};
     ghost use Rattle.settling.specs.NodeSets.{lowest, without};
     ghost use Rattle.settling.specs.Worklist.{worklist};
     ghost use Rattle.settling.specs.Working.{held};
 
-    /// The items as they are, with no node waiting.
+    /// The items as they are, with no node waiting; there are 256 numbers of nodes.
     pub fn new(items: &'a mut [T]) -> Worklist<'a, T>
-        requires { length items.old ≤ 256 }
-        ensures exact { held result ≡ worklist items.old (replicate (length items.old) false) }
+        ensures exact { held result ≡ worklist items.old (replicate (min (length items.old) 256) false) }
         ensures same { result.items.ghost_name ≡ items.entry.ghost_name }
     {
         let waiting = NodeSet::new();
         Worklist { items, waiting }
     }
 
-    /// The item of a node.
-    pub fn get(&self, node: NodeNumber) -> T
-        requires { node < length self.now.items.now }
-        ensures { slice_get (held self.now).items node ≡ Some result }
+    /// The item of a node, if the node has one.
+    pub fn get(&self, node: NodeNumber) -> Option<T>
+        ensures { result ≡ slice_get (held self.now).items node }
     {
-        self.items[node as usize]
+        self.items.get(node as usize).copied()
     }
 
-    /// Gives a node another item, and has it wait.
+    /// Gives a node that has an item another one, and has it wait.
     pub fn put(&mut self, node: NodeNumber, item: T)
-        requires { node < length self.old.items.now }
         ensures exact { held self.new ≡ worklist (slice_set (held self.old).items node item) (slice_set (held self.old).waiting node true) }
         ensures same { self.new.items.ghost_name ≡ self.old.items.ghost_name }
     {
         let items = &mut *self.items;
-        items[node as usize] = item;
-        self.waiting.insert(node);
+        if (node as usize) < items.len() {
+            items[node as usize] = item;
+            self.waiting.insert(node);
+        }
     }
 
     /// The lowest waiting node stops waiting, if there is one.

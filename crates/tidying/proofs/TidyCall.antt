@@ -1,5 +1,5 @@
 -- What a caller of `tidy` finds, from what its parts tell.
-use Rattle.std.proofs.Common.{◌≡◌, ℕ, ◌≤◌, true, List, ◌++◌, length, take, Some, None, Option, sym, refl, ap, ◌∙◌, arith}
+use Rattle.std.proofs.Common.{◌≡◌, ℕ, ◌≤◌, true, List, ◌++◌, length, take, Some, Option, sym, ap, ◌∙◌, arith}
 use lib.Seq.{take-append-le}
 use Rattle.std.specs.Option.{IsSome, option_map}
 use Rattle.std.proofs.lemmas.List.{length-append, length-take-le, take_all}

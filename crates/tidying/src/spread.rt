@@ -27,7 +27,7 @@ fn mark(spread: &mut Worklist<bool>, node: NodeNumber)
     ensures exact { held spread.new ≡ spread_to node (held spread.old) }
     ensures same { spread.new.items.ghost_name ≡ spread.old.items.ghost_name }
 {
-    if !spread.get(node) {
+    if spread.get(node) == Some(false) {
         spread.put(node, true);
     }
 }

@@ -6,4 +6,4 @@ pub invariant_of-result : goal.invariant_of-result
 invariant_of-result g c = record { within = within_none (length c.args.items.now) c.new-waiting.result c.new-waiting.ensures }
 
 pub returns-clause-exact : goal.returns-clause-exact
-returns-clause-exact g c = new_is c.args.items.now c.new-waiting.result c.requires c.new-waiting.ensures
+returns-clause-exact g c = new_is c.args.items.now c.new-waiting.result c.new-waiting.ensures
