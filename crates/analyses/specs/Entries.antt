@@ -1,5 +1,5 @@
 -- Facts that keep an entry for each register, present or absent, or say that no run comes.
-use Rattle.std.specs.Prelude.{◌≡◌, ℕ, zero, suc, ◌+◌, ◌<◌, Bool, false, cond, not, ◌&&◌, ◌||◌, List, [], ◌∷◌, ◌++◌, is_some, Some, None, Option, slice_index_or}
+use Rattle.std.specs.Prelude.{◌≡◌, ℕ, zero, suc, ◌+◌, ◌<◌, Bool, true, false, cond, not, ◌&&◌, ◌||◌, List, [], ◌∷◌, ◌++◌, replicate, is_some, Some, None, Option, slice_index_or}
 use Rattle.machine.specs.Limits.{register_count}
 use Rattle.analysis.specs.Facts.{Point, state, register, cell, FactsOf}
 
@@ -77,4 +77,24 @@ module _ {T : Type 0} (eq : T → T → Bool) (Says : List ℕ → ℕ → T →
     nowhere = None;
     joined = joined eq;
     rises = rises eq;
+  }
+
+-- facts of any type that keep a flag, that no state comes here, beside the entries
+module _ {Fact T : Type 0} (eq : T → T → Bool) (none : Fact → Bool) (entries : Fact → List (Option T)) (made : Bool → List (Option T) → Fact) (Says : List ℕ → ℕ → T → Type 0) where
+  abbrev pub flagged_allows : Fact → Point → Type 0
+  flagged_allows f (state s) = (none f ≡ false) × Holds eq Says (entries f) s.regs
+  flagged_allows f (register r) = ⊥
+  flagged_allows f (cell c) = ⊥
+
+  abbrev pub flagged_merged : Fact → Fact → Fact
+  flagged_merged f g = cond (any_lost eq register_count (entries f) (entries g)) (made (none f) (agreeing eq register_count (entries f) (entries g))) f
+
+  abbrev pub flagged_facts : FactsOf Fact
+  flagged_facts = record {
+    height = 9;
+    rank = λ f. cond (none f) 0 (1 + gaps register_count (entries f));
+    allows = flagged_allows;
+    nowhere = made true (replicate register_count None);
+    joined = λ f g. cond (none g) f (cond (none f) g (flagged_merged f g));
+    rises = λ f g. cond (none g) false (cond (none f) true (any_lost eq register_count (entries f) (entries g)));
   }

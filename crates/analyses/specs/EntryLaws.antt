@@ -1,5 +1,6 @@
 -- Facts that keep an entry for each register show what is asked of facts.
-use Rattle.std.specs.Prelude.{◌≡◌, ℕ, zero, suc, ◌+◌, ◌<◌, ◌≤◌, Bool, true, false, cond, not, ◌||◌, List, [], ◌∷◌, ◌++◌, length, is_some, Some, None, Option, ◌≢◌, slice_index_or, slice_set}
+use Rattle.std.specs.Prelude.{◌≡◌, ℕ, zero, suc, ◌+◌, ◌<◌, ◌≤◌, Bool, true, false, cond, not, ◌&&◌, ◌||◌, List, [], ◌∷◌, ◌++◌, length, is_some, Some, None, Option, ◌≢◌, slice_index_or, slice_set}
+use Rattle.std.proofs.Math.Bool.{not-not}
 use Rattle.std.proofs.Math.Path.{refl, sym, ap}
 use Rattle.std.proofs.Common.{subst, ◌∙◌}
 use Rattle.std.proofs.Math.Logic.{⊎_elim}
@@ -9,7 +10,7 @@ use Rattle.std.proofs.lemmas.List.{get_or_append_left, get_or_push, length_push,
 use Rattle.std.proofs.lemmas.Bool.{cases_eq, cases_lt}
 use Rattle.machine.specs.State.{State}
 use Rattle.analysis.specs.Facts.{Point, state, register, cell, FactsShow}
-use Rattle.analyses.specs.Entries.{Entries, agreed, lost, entry_at, gap, gaps, any_lost, agreeing, joined, rises, entry_rank, entry_allows, entry_facts}
+use Rattle.analyses.specs.Entries.{Entries, Holds, agreed, lost, entry_at, gap, gaps, any_lost, agreeing, joined, rises, entry_rank, entry_allows, entry_facts, flagged_allows, flagged_facts}
 
 -- one entry
 
@@ -103,6 +104,15 @@ module _ {T : Type 0} (eq : T → T → Bool) (xs ys : List (Option T)) where
   unfolding any_lost
   any_next k = rw add-one
 
+  -- the same, of what is told of an entry
+  pub any_told : (k : ℕ) (rose some none : Bool) (both : Option T) → rose ≡ any_lost eq k xs ys → both ≡ agreed eq (entry_at xs k) (entry_at ys k) → some ≡ is_some (entry_at xs k)
+      → is_some both ≡ not none → (rose || (some && none)) ≡ any_lost eq (k + 1) xs ys
+  any_told k rose some none both p q r w =
+      ap (λ b. b || (some && none)) p
+      ∙ ap (λ b. any_lost eq k xs ys || (b && none)) r
+      ∙ ap (λ b. any_lost eq k xs ys || (is_some (entry_at xs k) && b)) (sym (not-not none) ∙ ap not (sym w) ∙ ap (λ o. not (is_some o)) q)
+      ∙ sym (any_next k)
+
   pub none_lost : (k i : ℕ) → any_lost eq k xs ys ≡ false → i < k → lost eq (entry_at xs i) (entry_at ys i) ≡ false
   unfolding any_lost
   none_lost zero i e h = absurd (omega arith)
@@ -113,64 +123,202 @@ module _ {T : Type 0} (eq : T → T → Bool) (xs ys : List (Option T)) where
       go ih true q e = absurd (let z : ◌≡◌ {A = ℕ} 0 1 = cc in omega arith)
       go ih false q e = ⊎_elim (λ (p : i ≡ k). ap (λ j. lost eq (entry_at xs j) (entry_at ys j)) p ∙ e) (λ (ne : i ≡ k → ⊥). ih q (omega arith)) (cases_eq i k)
 
--- the laws, by cases on the two facts and on whether an entry is lost
+module _ {T : Type 0} (eq : T → T → Bool) (equal : (x y : T) → eq x y ≡ true → x ≡ y) (xs ys : List (Option T)) where
+  gaps_grow : (n k : ℕ) → k ≤ n → gaps k xs ≤ gaps k (agreeing eq n xs ys)
+  unfolding gaps
+  gaps_grow n zero h = omega arith
+  gaps_grow n (suc k) h =
+      let at = ap gap (entry_agreeing eq xs ys n k h) in
+      omega (arith, gaps_grow n k (omega arith), gap_grows eq equal (entry_at xs k) (entry_at ys k), at)
+
+  gaps_rise : (n k : ℕ) → k ≤ n → any_lost eq k xs ys ≡ true → gaps k xs < gaps k (agreeing eq n xs ys)
+  unfolding gaps any_lost
+  gaps_rise n zero h e = absurd (let z : ◌≡◌ {A = ℕ} 0 1 = cc in omega arith)
+  gaps_rise n (suc k) h e = go (gaps_rise n k (omega arith)) (any_lost eq k xs ys) refl e
+    where
+      at : gap (entry_at (agreeing eq n xs ys) k) ≡ gap (agreed eq (entry_at xs k) (entry_at ys k))
+      at = ap gap (entry_agreeing eq xs ys n k h)
+
+      go : (any_lost eq k xs ys ≡ true → gaps k xs < gaps k (agreeing eq n xs ys)) → (b : Bool) → any_lost eq k xs ys ≡ b
+          → (b || lost eq (entry_at xs k) (entry_at ys k)) ≡ true → gaps k xs + gap (entry_at xs k) < gaps k (agreeing eq n xs ys) + gap (entry_at (agreeing eq n xs ys) k)
+      go ih true q e = omega (arith, ih q, gap_grows eq equal (entry_at xs k) (entry_at ys k), at)
+      go ih false q e = omega (arith, gaps_grow n k (omega arith), gap_lost eq equal (entry_at xs k) (entry_at ys k) e, at)
+
+-- the laws of facts of any type with a flag, by cases on the two flags and on whether an entry is lost
+module _ {Fact T : Type 0} (eq : T → T → Bool) (equal : (x y : T) → eq x y ≡ true → x ≡ y) (none : Fact → Bool) (entries : Fact → List (Option T)) (made : Bool → List (Option T) → Fact)
+    (Says : List ℕ → ℕ → T → Type 0) (made_none : (b : Bool) (xs : List (Option T)) → none (made b xs) ≡ b) (made_entries : (xs : List (Option T)) → entries (made false xs) ≡ xs) where
+  Allowed : Fact → State → Type 0
+  Allowed f s = flagged_allows eq none entries made Says f (state s)
+
+  rank_of : Fact → ℕ
+  rank_of f = cond (none f) 0 (1 + gaps 8 (entries f))
+
+  join_in : (f g : Fact) (b c d : Bool) → Fact
+  join_in f g b c d = cond b f (cond c g (cond d (made (none f) (agreeing eq 8 (entries f) (entries g))) f))
+
+  not_none : (f : Fact) (s : State) → Allowed f s → none f ≢ true
+  unfolding Allowed
+  not_none f s a q = let z : ◌≡◌ {A = Bool} true false = sym q ∙ a.0 in let y : ◌≡◌ {A = ℕ} 0 1 = cc in omega arith
+
+  -- the entries of the merged fact, where it is made
+  merged_entries : (f g : Fact) → none f ≡ false → entries (made (none f) (agreeing eq 8 (entries f) (entries g))) ≡ agreeing eq 8 (entries f) (entries g)
+  merged_entries f g q = ap (λ b. entries (made b (agreeing eq 8 (entries f) (entries g)))) q ∙ made_entries (agreeing eq 8 (entries f) (entries g))
+
+  -- each was one of both
+  merged_entry : (f g : Fact) (i : ℕ) (v : T) → none f ≡ false → i < 8 → entry_at (entries (made (none f) (agreeing eq 8 (entries f) (entries g)))) i ≡ Some v
+      → agreed eq (entry_at (entries f) i) (entry_at (entries g) i) ≡ Some v
+  merged_entry f g i v q h e = sym (ap (λ xs. entry_at xs i) (merged_entries f g q) ∙ entry_agreeing eq (entries f) (entries g) 8 i h) ∙ e
+
+  left_in : (f g : Fact) (s : State) → Allowed f s → (b c d : Bool) → none f ≡ c → Allowed (join_in f g b c d) s
+  unfolding Allowed join_in
+  left_in f g s a true c d q = a
+  left_in f g s a false true d q = absurd (not_none f s a q)
+  left_in f g s a false false true q = (
+    made_none (none f) (agreeing eq 8 (entries f) (entries g)) ∙ a.0,
+    λ i v h e. a.1 i v h (agreed_left eq equal (entry_at (entries f) i) (entry_at (entries g) i) v (merged_entry f g i v q h e)),
+  )
+  left_in f g s a false false false q = a
+
+  right_in : (f g : Fact) (s : State) → Allowed g s → (b c d : Bool) → none g ≡ b → none f ≡ c → any_lost eq 8 (entries f) (entries g) ≡ d → Allowed (join_in f g b c d) s
+  unfolding Allowed join_in
+  right_in f g s a true c d p q r = absurd (not_none g s a p)
+  right_in f g s a false true d p q r = a
+  right_in f g s a false false true p q r = (
+    made_none (none f) (agreeing eq 8 (entries f) (entries g)) ∙ q,
+    λ i v h e. a.1 i v h (agreed_right eq equal (entry_at (entries f) i) (entry_at (entries g) i) v (merged_entry f g i v q h e)),
+  )
+  right_in f g s a false false false p q r =
+      (q, λ i v h e. a.1 i v h (kept_right eq equal (entry_at (entries f) i) (entry_at (entries g) i) v (none_lost eq (entries f) (entries g) 8 i r h) e))
+
+  same_in : (f g : Fact) (b c d : Bool) → cond b false (cond c true d) ≡ false → join_in f g b c d ≡ f
+  unfolding join_in
+  same_in f g true c d e = refl
+  same_in f g false true d e = absurd (let z : ◌≡◌ {A = ℕ} 0 1 = cc in omega arith)
+  same_in f g false false true e = absurd (let z : ◌≡◌ {A = ℕ} 0 1 = cc in omega arith)
+  same_in f g false false false e = refl
+
+  rank_none : (f : Fact) → none f ≡ true → rank_of f ≡ 0
+  unfolding rank_of
+  rank_none f p = ap (λ (b : Bool). cond b 0 (1 + gaps 8 (entries f))) p
+
+  rank_some : (f : Fact) → none f ≡ false → rank_of f ≡ 1 + gaps 8 (entries f)
+  unfolding rank_of
+  rank_some f p = ap (λ (b : Bool). cond b 0 (1 + gaps 8 (entries f))) p
+
+  higher_in : (f g : Fact) (b c d : Bool) → none g ≡ b → none f ≡ c → any_lost eq 8 (entries f) (entries g) ≡ d → cond b false (cond c true d) ≡ true → rank_of f < rank_of (join_in f g b c d)
+  unfolding join_in
+  higher_in f g true c d p q r e = absurd (let z : ◌≡◌ {A = ℕ} 0 1 = cc in omega arith)
+  higher_in f g false true d p q r e = omega (arith, rank_none f q, rank_some g p)
+  higher_in f g false false true p q r e =
+      let after = made (none f) (agreeing eq 8 (entries f) (entries g)) in
+      let more = gaps_rise eq equal (entries f) (entries g) 8 8 (omega arith) r in
+      let there = rank_some after (made_none (none f) (agreeing eq 8 (entries f) (entries g)) ∙ q) in
+      let held = ap (gaps 8) (merged_entries f g q) in
+      omega (arith, rank_some f q)
+  higher_in f g false false false p q r e = absurd (let z : ◌≡◌ {A = ℕ} 0 1 = cc in omega arith)
+
+  low_in : (f : Fact) (b : Bool) → cond b 0 (1 + gaps 8 (entries f)) ≤ 9
+  low_in f true = omega arith
+  low_in f false = omega (arith, gaps_le 8 (entries f))
+
+  empty_in : (f : Fact) (p : Point) (b : Bool) → none f ≡ b → cond b 0 (1 + gaps 8 (entries f)) ≡ 0 → flagged_allows eq none entries made Says f p → ⊥
+  unfolding Allowed
+  empty_in f (state s) true q e a = not_none f s a q
+  empty_in f (state s) false q e a = omega arith
+  empty_in f (register r) b q e a = a
+  empty_in f (cell c) b q e a = a
+
+  left_at : (f g : Fact) (p : Point) → flagged_allows eq none entries made Says f p → flagged_allows eq none entries made Says ((flagged_facts eq none entries made Says).joined f g) p
+  unfolding Allowed join_in
+  left_at f g (state s) a = left_in f g s a (none g) (none f) (any_lost eq 8 (entries f) (entries g)) refl
+  left_at f g (register r) a = absurd a
+  left_at f g (cell c) a = absurd a
+
+  right_at : (f g : Fact) (p : Point) → flagged_allows eq none entries made Says g p → flagged_allows eq none entries made Says ((flagged_facts eq none entries made Says).joined f g) p
+  unfolding Allowed join_in
+  right_at f g (state s) a = right_in f g s a (none g) (none f) (any_lost eq 8 (entries f) (entries g)) refl refl refl
+  right_at f g (register r) a = absurd a
+  right_at f g (cell c) a = absurd a
+
+  pub flagged_shown : FactsShow (flagged_facts eq none entries made Says)
+  unfolding join_in rank_of
+  flagged_shown = record {
+    low = λ f. low_in f (none f);
+    bottom = rank_none (flagged_facts eq none entries made Says).nowhere (made_none true _);
+    empty = λ f p e a. empty_in f p (none f) refl e a;
+    left = left_at;
+    right = right_at;
+    same = λ f g e. same_in f g (none g) (none f) (any_lost eq 8 (entries f) (entries g)) e;
+    higher = λ f g e. higher_in f g (none g) (none f) (any_lost eq 8 (entries f) (entries g)) refl refl refl e;
+  }
+
+  -- a fact says nothing of a state but what it says of the registers
+  pub flagged_same_registers : (f : Fact) (s t : State) → t.regs ≡ s.regs → flagged_allows eq none entries made Says f (state s) → flagged_allows eq none entries made Says f (state t)
+  flagged_same_registers f s t q a = subst (λ regs. (none f ≡ false) × Holds eq Says (entries f) regs) (sym q) a
+
+  -- the joined fact, where neither is nowhere and an entry was lost
+  pub joined_risen : (f g : Fact) (xs : List (Option T)) → none g ≡ false → none f ≡ false → any_lost eq 8 (entries f) (entries g) ≡ true → xs ≡ agreeing eq 8 (entries f) (entries g)
+      → made (none f) xs ≡ (flagged_facts eq none entries made Says).joined f g
+  unfolding join_in
+  joined_risen f g xs p q r e = ap (made (none f)) e ∙ go (none g) (none f) (any_lost eq 8 (entries f) (entries g)) p q r
+    where
+      go : (b c d : Bool) → b ≡ false → c ≡ false → d ≡ true → made (none f) (agreeing eq 8 (entries f) (entries g)) ≡ join_in f g b c d
+      go true c d p q r = absurd (let z : ◌≡◌ {A = ℕ} 0 1 = cc in omega arith)
+      go false true d p q r = absurd (let z : ◌≡◌ {A = ℕ} 0 1 = cc in omega arith)
+      go false false true p q r = refl
+      go false false false p q r = absurd (let z : ◌≡◌ {A = ℕ} 0 1 = cc in omega arith)
+
+-- entries, or none, are such facts
 module _ {T : Type 0} (eq : T → T → Bool) (equal : (x y : T) → eq x y ≡ true → x ≡ y) (Says : List ℕ → ℕ → T → Type 0) where
-  module _ (xs ys : List (Option T)) where
-    gaps_grow : (n k : ℕ) → k ≤ n → gaps k xs ≤ gaps k (agreeing eq n xs ys)
-    unfolding gaps
-    gaps_grow n zero h = omega arith
-    gaps_grow n (suc k) h =
-        let at = ap gap (entry_agreeing eq xs ys n k h) in
-        omega (arith, gaps_grow n k (omega arith), gap_grows eq equal (entry_at xs k) (entry_at ys k), at)
+  abbrev is_none : Entries T → Bool
+  is_none f = not (is_some f)
 
-    gaps_rise : (n k : ℕ) → k ≤ n → any_lost eq k xs ys ≡ true → gaps k xs < gaps k (agreeing eq n xs ys)
-    unfolding gaps any_lost
-    gaps_rise n zero h e = absurd (let z : ◌≡◌ {A = ℕ} 0 1 = cc in omega arith)
-    gaps_rise n (suc k) h e = go (gaps_rise n k (omega arith)) (any_lost eq k xs ys) refl e
-      where
-        at : gap (entry_at (agreeing eq n xs ys) k) ≡ gap (agreed eq (entry_at xs k) (entry_at ys k))
-        at = ap gap (entry_agreeing eq xs ys n k h)
+  abbrev present : Entries T → List (Option T)
+  present None = []
+  present (Some xs) = xs
 
-        go : (any_lost eq k xs ys ≡ true → gaps k xs < gaps k (agreeing eq n xs ys)) → (b : Bool) → any_lost eq k xs ys ≡ b
-            → (b || lost eq (entry_at xs k) (entry_at ys k)) ≡ true → gaps k xs + gap (entry_at xs k) < gaps k (agreeing eq n xs ys) + gap (entry_at (agreeing eq n xs ys) k)
-        go ih true q e = omega (arith, ih q, gap_grows eq equal (entry_at xs k) (entry_at ys k), at)
-        go ih false q e = omega (arith, gaps_grow n k (omega arith), gap_lost eq equal (entry_at xs k) (entry_at ys k) e, at)
+  abbrev made_of : Bool → List (Option T) → Entries T
+  made_of true xs = None
+  made_of false xs = Some xs
 
-    merged_left : (s : State) (b : Bool) → entry_allows eq Says (Some xs) (state s) → entry_allows eq Says (Some (cond b (agreeing eq 8 xs ys) xs)) (state s)
-    merged_left s true a = λ i v h e. a i v h (agreed_left eq equal (entry_at xs i) (entry_at ys i) v (sym (entry_agreeing eq xs ys 8 i h) ∙ e))
-    merged_left s false a = a
+  flagged : FactsShow (flagged_facts eq is_none present made_of Says)
+  flagged = flagged_shown eq equal is_none present made_of Says made_flag (λ xs. refl)
+    where
+      made_flag : (b : Bool) (xs : List (Option T)) → is_none (made_of b xs) ≡ b
+      made_flag true xs = refl
+      made_flag false xs = refl
 
-    merged_right : (s : State) (b : Bool) → any_lost eq 8 xs ys ≡ b → entry_allows eq Says (Some ys) (state s) → entry_allows eq Says (Some (cond b (agreeing eq 8 xs ys) xs)) (state s)
-    merged_right s true q a = λ i v h e. a i v h (agreed_right eq equal (entry_at xs i) (entry_at ys i) v (sym (entry_agreeing eq xs ys 8 i h) ∙ e))
-    merged_right s false q a = λ i v h e. a i v h (kept_right eq equal (entry_at xs i) (entry_at ys i) v (none_lost eq xs ys 8 i q h) e)
+  merged_in : (b : Bool) (xs ys : List (Option T)) → cond b (Some xs) (Some ys) ≡ Some (cond b xs ys)
+  merged_in true xs ys = refl
+  merged_in false xs ys = refl
 
-    merged_same : (b : Bool) → b ≡ false → Some (cond b (agreeing eq 8 xs ys) xs) ≡ Some xs
-    merged_same true e = absurd (let z : ◌≡◌ {A = ℕ} 0 1 = cc in omega arith)
-    merged_same false e = refl
-
-    merged_higher : (b : Bool) → any_lost eq 8 xs ys ≡ b → b ≡ true → 1 + gaps 8 xs < 1 + gaps 8 (cond b (agreeing eq 8 xs ys) xs)
-    merged_higher true q e = omega (arith, gaps_rise 8 8 (omega arith) q)
-    merged_higher false q e = absurd (let z : ◌≡◌ {A = ℕ} 0 1 = cc in omega arith)
+  allowed_in : (f g : Entries T) (s : State) → f ≡ g → flagged_allows eq is_none present made_of Says f (state s) → entry_allows eq Says g (state s)
+  allowed_in None g s e a = let flag : ◌≡◌ {A = Bool} true false = a.0 in let never : ◌≡◌ {A = ℕ} 0 1 = cc in absurd (omega arith)
+  allowed_in (Some xs) g s e a = subst (λ h. entry_allows eq Says h (state s)) e a.1
 
   low : (f : Entries T) → entry_rank f ≤ 9
-  low None = omega arith
-  low (Some xs) = omega (arith, gaps_le 8 xs)
+  low None = flagged.low None
+  low (Some xs) = flagged.low (Some xs)
 
   empty : (f : Entries T) (p : Point) → entry_rank f ≡ 0 → entry_allows eq Says f p → ⊥
   empty None p e a = a
-  empty (Some xs) p e a = omega arith
+  empty (Some xs) (state s) e a = flagged.empty (Some xs) (state s) e (refl, a)
+  empty (Some xs) (register r) e a = a
+  empty (Some xs) (cell c) e a = a
 
   left : (f g : Entries T) (p : Point) → entry_allows eq Says f p → entry_allows eq Says (joined eq f g) p
   left None g p a = absurd a
   left (Some xs) None p a = a
-  left (Some xs) (Some ys) (state s) a = merged_left xs ys s (any_lost eq 8 xs ys) a
+  left (Some xs) (Some ys) (state s) a =
+      allowed_in _ _ s (merged_in (any_lost eq 8 xs ys) (agreeing eq 8 xs ys) xs) (flagged.left (Some xs) (Some ys) (state s) (refl, a))
   left (Some xs) (Some ys) (register r) a = absurd a
   left (Some xs) (Some ys) (cell c) a = absurd a
 
   right : (f g : Entries T) (p : Point) → entry_allows eq Says g p → entry_allows eq Says (joined eq f g) p
   right None g p a = a
   right (Some xs) None p a = absurd a
-  right (Some xs) (Some ys) (state s) a = merged_right xs ys s (any_lost eq 8 xs ys) refl a
+  right (Some xs) (Some ys) (state s) a =
+      allowed_in _ _ s (merged_in (any_lost eq 8 xs ys) (agreeing eq 8 xs ys) xs) (flagged.right (Some xs) (Some ys) (state s) (refl, a))
   right (Some xs) (Some ys) (register r) a = absurd a
   right (Some xs) (Some ys) (cell c) a = absurd a
 
@@ -178,13 +326,16 @@ module _ {T : Type 0} (eq : T → T → Bool) (equal : (x y : T) → eq x y ≡ 
   same None None e = refl
   same None (Some ys) e = absurd (let z : ◌≡◌ {A = ℕ} 0 1 = cc in omega arith)
   same (Some xs) None e = refl
-  same (Some xs) (Some ys) e = merged_same xs ys (any_lost eq 8 xs ys) e
+  same (Some xs) (Some ys) e = sym (merged_in (any_lost eq 8 xs ys) (agreeing eq 8 xs ys) xs) ∙ flagged.same (Some xs) (Some ys) e
 
   higher : (f g : Entries T) → rises eq f g ≡ true → entry_rank f < entry_rank (joined eq f g)
   higher None None e = absurd (let z : ◌≡◌ {A = ℕ} 0 1 = cc in omega arith)
   higher None (Some ys) e = omega arith
   higher (Some xs) None e = absurd (let z : ◌≡◌ {A = ℕ} 0 1 = cc in omega arith)
-  higher (Some xs) (Some ys) e = merged_higher xs ys (any_lost eq 8 xs ys) refl e
+  higher (Some xs) (Some ys) e =
+      let more = flagged.higher (Some xs) (Some ys) e in
+      let rank = λ (f : Entries T). cond (is_none f) 0 (1 + gaps 8 (present f)) in
+      subst (λ n. 1 + gaps 8 xs < n) (ap rank (merged_in (any_lost eq 8 xs ys) (agreeing eq 8 xs ys) xs)) more
 
   pub entries_shown : FactsShow (entry_facts eq Says)
   entries_shown = record { low = low; bottom = refl; empty = empty; left = left; right = right; same = same; higher = higher }

@@ -15,22 +15,24 @@ pub record Head (ps : List (List ℕ)) (i : ℕ) (w : List ℕ) (more : List (Li
   pub within : i < length ps
   pub first : w ≡ get_or ps i []
   pub rest : more ≡ drop (i + 1) ps
+  pub start : part_start ps (i + 1) ≡ part_start ps i + (length w + 1)
 
-head_suc : (ps : List (List ℕ)) (i : ℕ) (w : List ℕ) (more : List (List ℕ)) → drop i ps ≡ w ∷ more → (i < length ps) × (w ≡ get_or ps i []) × (more ≡ drop (suc i) ps)
+head_suc : (ps : List (List ℕ)) (i : ℕ) (w : List ℕ) (more : List (List ℕ)) → drop i ps ≡ w ∷ more
+    → (i < length ps) × (w ≡ get_or ps i []) × (more ≡ drop (suc i) ps) × (part_start ps (suc i) ≡ part_start ps i + (length w + 1))
 head_suc [] zero w more h = let z : ◌≡◌ {A = ℕ} 0 1 = cc in absurd (omega arith)
 head_suc [] (suc i) w more h = let z : ◌≡◌ {A = ℕ} 0 1 = cc in absurd (omega arith)
 head_suc (p ∷ ps) zero w more h =
     let e : p ≡ w = cc in
     let m : more ≡ ps = cc in
-    (omega arith, sym e, m)
+    (omega arith, sym e, m, omega (arith, ap length e))
 head_suc (p ∷ ps) (suc i) w more h =
     let r = head_suc ps i w more h in
-    (omega (arith, r.0), r.1, r.2)
+    (omega (arith, r.0), r.1, r.2, omega (arith, r.3))
 
 pub head : (ps : List (List ℕ)) (i : ℕ) (w : List ℕ) (more : List (List ℕ)) → drop i ps ≡ w ∷ more → Head ps i w more
 head ps i w more h =
     let r = head_suc ps i w more h in
-    record { within = r.0; first = r.1; rest = r.2 ∙ ap (λ k. drop k ps) (sym (add-one i)) }
+    record { within = r.0; first = r.1; rest = r.2 ∙ ap (λ k. drop k ps) (sym (add-one i)); start = ap (part_start ps) (add-one i) ∙ r.3 }
 
 pub none_left : (ps : List (List ℕ)) (i : ℕ) → drop i ps ≡ [] → length ps ≤ i
 none_left ps i h = omega (arith, length-drop i ps, ap length h)

@@ -88,6 +88,10 @@ module _ (p : Prog) (ok : IsProgram p) where
       leads_has (length p.entries) (exits_of e.node) e.targets 0 (sound_parts _ e (ok.sound n below)).leads
       (subst (λ (node : Node). Has (exits_of node) 0) (sym (skip_is e.node is)) refl)
 
+  pub leads_below : {n j : ℕ} → Leads p n j → n < length p.entries → j < length p.entries
+  leads_below {n} (one is on) below = subst (λ j. j < length p.entries) on (following_below n is below)
+  leads_below {n} (more is rest) below = leads_below rest (following_below n is below)
+
   skips_below : (k n j : ℕ) → SkipsTo p k n j → n < length p.entries → j < length p.entries
   skips_below zero n j way below = subst (λ m. m < length p.entries) way.1 below
   skips_below (suc k) n j way below = skips_below k (following p n) j way.1 (following_below n way.0 below)
@@ -134,6 +138,10 @@ module _ (p : Prog) (ok : IsProgram p) where
           let f = leads_fewer p j k (one is refl) way in
           let found = solid_first f.0 (following p n) j f.2 (following_below n is below) in
           let z : ◌≡◌ {A = ℕ} 0 1 = cc in omega arith) ∙ sym e
+
+  pub solid_leads : {n j : ℕ} → Leads p n j → n < length p.entries → landing p n ≡ landing p j
+  solid_leads {n} (one is on) below = solid_step n is below ∙ ap (landing p) on
+  solid_leads {n} (more is rest) below = solid_step n is below ∙ solid_leads rest (following_below n is below)
 
   pub past_below : (n : ℕ) → n < length p.entries → past p n < length p.entries
   past_below n below = go (landing p n) refl
