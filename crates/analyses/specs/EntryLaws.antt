@@ -1,5 +1,6 @@
 -- Facts that keep an entry for each register show what is asked of facts.
 use Rattle.std.specs.Prelude.{◌≡◌, ℕ, zero, suc, ◌+◌, ◌<◌, ◌≤◌, Bool, true, false, cond, not, ◌&&◌, ◌||◌, List, [], ◌∷◌, ◌++◌, length, is_some, Some, None, Option, ◌≢◌, slice_index_or, slice_set}
+use Rattle.std.specs.Option.{is_none, unwrap_or}
 use Rattle.std.proofs.Math.Bool.{not-not}
 use Rattle.std.proofs.Math.Path.{refl, sym, ap}
 use Rattle.std.proofs.Common.{subst, ◌∙◌}
@@ -270,16 +271,11 @@ module _ {Fact T : Type 0} (eq : T → T → Bool) (equal : (x y : T) → eq x y
 
 -- entries, or none, are such facts
 module _ {T : Type 0} (eq : T → T → Bool) (equal : (x y : T) → eq x y ≡ true → x ≡ y) (Says : List ℕ → ℕ → T → Type 0) where
-  abbrev is_none : Entries T → Bool
-  is_none f = not (is_some f)
-
   abbrev present : Entries T → List (Option T)
-  present None = []
-  present (Some xs) = xs
+  present f = unwrap_or f []
 
   abbrev made_of : Bool → List (Option T) → Entries T
-  made_of true xs = None
-  made_of false xs = Some xs
+  made_of b xs = cond b None (Some xs)
 
   flagged : FactsShow (flagged_facts eq is_none present made_of Says)
   flagged = flagged_shown eq equal is_none present made_of Says made_flag (λ xs. refl)

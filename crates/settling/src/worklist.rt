@@ -19,7 +19,7 @@ impl<'a, T: Copy> Worklist<'a, T> {
     ghost use Rattle.settling.specs.Worklist.{worklist};
     ghost use Rattle.settling.specs.Working.{held};
 
-    /// The items as they are, with no node waiting; there are 256 numbers of nodes.
+    /// The items as they are, with no node waiting. A node's number is a byte, so at most 256 nodes can wait.
     pub fn new(items: &'a mut [T]) -> Worklist<'a, T>
         ensures exact { held result ≡ worklist items.old (replicate (min (length items.old) 256) false) }
         ensures same { result.items.ghost_name ≡ items.entry.ghost_name }
